@@ -1,0 +1,29 @@
+-- Each arm looks in the part of the table that serves its code points. Made by tools/tables.rs.
+-- Assumes nothing.
+use mathlib.Core.Path.{refl}
+use native.Mathlib.Omega.{arith}
+use borrow.Author.Needs.{needs}
+use Rattle.unicode.specs.Ranges.{endsOf}
+use Rattle.unicode.specs.Connector.{connector}
+use Rattle.unicode.proofs.Ordered.{connector-ordered}
+use Rattle.unicode.proofs.Parts.{last-part-is}
+use Rattle.unicode.proofs.connector.contains.Statement.{statement}
+use Rattle.unicode.proofs.connector.contains.Tie as tie
+
+slice-aggregate-in-ranges : tie.Need-slice-aggregate-in-ranges
+slice-aggregate-in-ranges c = search needs
+
+in-ranges-requires : tie.Need-in-ranges-requires
+in-ranges-requires c κs = search needs
+
+returns : tie.Need-returns
+unfolding connector endsOf
+returns c = last-part-is connector connector-ordered 0 6 0x0000 refl refl _ _ (omega arith) (c .in-ranges .ensures)
+
+pub contains-spec : {M : Type 1} → statement M
+contains-spec =
+    tie.close
+    (tie.spec
+    slice-aggregate-in-ranges
+    in-ranges-requires
+    returns)

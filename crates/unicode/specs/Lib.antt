@@ -1,0 +1,7 @@
+-- What is promised of code points and of UTF-8.
+pub mod Ranges
+pub mod WhiteSpace
+pub mod Alphabetic
+pub mod Numeric
+pub mod Mark
+pub mod Connector

@@ -1,0 +1,6 @@
+mod alphabetic;
+mod connector;
+mod mark;
+mod numeric;
+mod ranges;
+mod white_space;

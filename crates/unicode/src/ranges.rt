@@ -1,0 +1,30 @@
+// Lookup in ranges that are laid out as their ends.
+ghost use mathlib.Core.Path.{_≡_};
+ghost use mathlib.Core.Bool.{true};
+ghost use Prim.Native.Nat.{_+_, _≤_};
+ghost use lib.ListN.{length};
+ghost use Rattle.unicode.specs.Ranges.{inEnds, ascending, EndsUpTo};
+
+// How many of the ends are at most c.
+fn ends_up_to(ends: &[u32], c: u32) -> usize
+    ensures { λ r. ⌜ (ascending (now (ends .entry)) ≡ true → EndsUpTo (now (ends .entry)) c r) ⌝ }
+{
+    let mut low = 0;
+    let mut high = ends.len();
+    while low < high {
+        let middle = low + (high - low) / 2;
+        if ends[middle] <= c {
+            low = middle + 1;
+        } else {
+            high = middle;
+        }
+    }
+    low
+}
+
+// c lies in one of the ranges: the number of ends up to it is odd.
+pub fn in_ranges(ends: &[u32], c: u32) -> bool
+    ensures { λ r. ⌜ (ascending (now (ends .entry)) ≡ true → r ≡ inEnds (now (ends .entry)) c) ⌝ }
+{
+    ends_up_to(ends, c) % 2 == 1
+}
