@@ -2,3 +2,6 @@
 pub mod Search
 pub mod Parts
 pub mod Ordered
+pub mod Blocks
+pub mod Sequences
+pub mod Validation

@@ -11,16 +11,16 @@ use lib.Dec.{leb, ltb, leb·suc-suc}
 use borrow.Author.Tests.{leb-true, ltb-true, le-leb, lt-leb}
 use Rattle.unicode.specs.Ranges.{within, inRanges, ordered, endsOf, inEnds, ascending}
 
-abbrev Ranges : Type 0
+abbrev pub Ranges : Type 0
 Ranges = List (ℕ × ℕ)
 
 -- what `ordered` says of a first range
-record First (least : ℕ) (range : ℕ × ℕ) (ranges : Ranges) : Type 0 where
-  starts : least ≤ range .0
-  some : range .0 ≤ range .1
-  rest : ordered (suc (range .1)) ranges ≡ true
+pub record First (least : ℕ) (range : ℕ × ℕ) (ranges : Ranges) : Type 0 where
+  pub starts : least ≤ range .0
+  pub some : range .0 ≤ range .1
+  pub rest : ordered (suc (range .1)) ranges ≡ true
 
-first : (least : ℕ) (range : ℕ × ℕ) (ranges : Ranges) → ordered least (range ∷ ranges) ≡ true → First least range ranges
+pub first : (least : ℕ) (range : ℕ × ℕ) (ranges : Ranges) → ordered least (range ∷ ranges) ≡ true → First least range ranges
 unfolding ordered
 first least range ranges e =
     let a = and-eq-true-iff (leb least (range .0)) (leb (range .0) (range .1) && ordered (suc (range .1)) ranges) .0 e in
@@ -60,7 +60,7 @@ abbrev pub closes : Ranges → ℕ → Bool
 closes [] high = true
 closes (range ∷ ranges) high = ltb high (range .0)
 
-before-grows : (least : ℕ) (ranges : Ranges) (m : ℕ) → ordered least ranges ≡ true → least ≤ before least ranges m
+pub before-grows : (least : ℕ) (ranges : Ranges) (m : ℕ) → ordered least ranges ≡ true → least ≤ before least ranges m
 before-grows least ranges zero e = le-refl least
 before-grows least [] (suc m) e = le-refl least
 before-grows least (range ∷ ranges) (suc m) e =
@@ -89,7 +89,7 @@ passed least (range ∷ ranges) (suc m) c e h =
     and-false true b = refl
     and-false false b = refl
 
-from-first : (least : ℕ) (range : ℕ × ℕ) (ranges : Ranges) → ordered least (range ∷ ranges) ≡ true → ordered (range .0) (range ∷ ranges) ≡ true
+pub from-first : (least : ℕ) (range : ℕ × ℕ) (ranges : Ranges) → ordered least (range ∷ ranges) ≡ true → ordered (range .0) (range ∷ ranges) ≡ true
 unfolding ordered
 from-first least range ranges e =
     rw (le-leb (range .0) (range .0) (le-refl (range .0)))
@@ -119,7 +119,7 @@ take-ordered least (range ∷ ranges) (suc n) e =
     let f = first least range ranges e in
     rw (le-leb least (range .0) (f .starts), le-leb (range .0) (range .1) (f .some), take-ordered (suc (range .1)) ranges n (f .rest))
 
-closes-below : (ranges : Ranges) (c high : ℕ) → c ≤ high → closes ranges high ≡ true → closes ranges c ≡ true
+pub closes-below : (ranges : Ranges) (c high : ℕ) → c ≤ high → closes ranges high ≡ true → closes ranges c ≡ true
 closes-below [] c high h e = refl
 closes-below (range ∷ ranges) c high h e = le-leb (suc c) (range .0) (lt-of-le-of-lt h (ltb-true high (range .0) e))
 

@@ -5,3 +5,8 @@ pub mod Alphabetic
 pub mod Numeric
 pub mod Mark
 pub mod Connector
+pub mod Classes
+pub mod Ascii
+pub mod Utf8
+pub mod Character
+pub mod Blocks
