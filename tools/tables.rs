@@ -158,8 +158,27 @@ fn proof(class: &Class, ranges: &[Range]) -> String {
     out
 }
 
+// The 128-entry table, by the numbers of specs/Ascii.antt.
+fn ascii() -> String {
+    let mut out = String::new();
+    writeln!(out, "// The classes of the 128 ASCII characters. Made by tools/tables.rs.").unwrap();
+    writeln!(out, "ghost use mathlib.Core.Path.{{_≡_}};\nghost use Prim.Native.Nat.{{_<_}};").unwrap();
+    writeln!(out, "ghost use Rattle.unicode.specs.Ascii.{{asciiKind}};\n").unwrap();
+    writeln!(out, "pub const WHITE_SPACE: u8 = 1;\npub const ALPHABETIC: u8 = 2;\npub const NUMERIC: u8 = 3;\npub const CONNECTOR: u8 = 4;\n").unwrap();
+    writeln!(out, "const KINDS: [u8; 128] = [").unwrap();
+    for c in (0..128).filter_map(char::from_u32) {
+        let tests = [c.is_whitespace(), c.is_alphabetic(), c.is_numeric(), c.is_punctuation_connector()];
+        writeln!(out, "    {},", tests.iter().position(|t| *t).map_or(0, |i| i + 1)).unwrap();
+    }
+    writeln!(out, "];\n").unwrap();
+    writeln!(out, "// The number of the class that c has, 0 where it has none.\npub fn kind(c: u32) -> u8").unwrap();
+    writeln!(out, "    requires {{ ⌜ c < 128 ⌝ }}\n    ensures {{ λ r. ⌜ r ≡ asciiKind c ⌝ }}\n{{\n    KINDS[c as usize]\n}}").unwrap();
+    out
+}
+
 fn main() {
     let target = std::env::args().nth(1).expect("tables DIR, or tables sweep");
+    fs::write(format!("{target}/src/ascii.rt"), ascii()).unwrap();
     for class in classes() {
         let ranges = ranges(class.test);
         fs::write(format!("{target}/specs/{}.antt", class.file), spec(&class, &ranges)).unwrap();

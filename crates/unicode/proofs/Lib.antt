@@ -5,3 +5,6 @@ pub mod Ordered
 pub mod Blocks
 pub mod Sequences
 pub mod Validation
+pub mod AsciiTable
+pub mod Decoding
+pub mod Either

@@ -1,0 +1,11 @@
+-- `a || b` in code: the second is asked only where the first says no.
+-- Assumes nothing.
+use mathlib.Core.Path.{_≡_}
+use mathlib.Core.Bool.{Bool, true, false, _||_}
+
+module _ (a b r : Bool) (e : r ≡ a) where
+  pub or-first : r ≡ true → r ≡ (a || b)
+  or-first t = rw (← e, t)
+
+  pub or-second : (q : Bool) → r ≡ false → q ≡ b → q ≡ (a || b)
+  or-second q t f = rw (← e, t) f
