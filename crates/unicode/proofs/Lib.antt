@@ -8,3 +8,4 @@ pub mod Validation
 pub mod AsciiTable
 pub mod Decoding
 pub mod Either
+pub mod Characters
