@@ -1,5 +1,5 @@
 // Prints the tables of the crate `unicode`: for each class its ranges as specs/ has them, its const
-// arrays as src/ has them, and the proof that the arrays hold the ranges.
+// arrays as src/ has them, and the proof that the arrays hold the ranges; and the ASCII table.
 //
 //     tables DIR      writes the files below DIR, the folder of the crate
 //     tables sweep    prints the ranges of every class, as the program `sweep` is to print them
@@ -109,7 +109,7 @@ fn source(class: &Class, ranges: &[Range]) -> String {
             Some(next) => write!(out, "        {from:#06X}..={:#06X}", next[0].0 - 1).unwrap(),
             None => write!(out, "        _").unwrap(),
         }
-        writeln!(out, " => in_ranges(&FROM_{:04X}, c),", chunk[0].0).unwrap();
+        writeln!(out, " => {{ let part = FROM_{:04X}; in_ranges(&part, c) }}", chunk[0].0).unwrap();
     }
     writeln!(out, "    }}\n}}").unwrap();
     out
@@ -176,8 +176,33 @@ fn ascii() -> String {
     out
 }
 
+// What the program `sweep` is to print, from the predicates that 000 itself calls.
+fn sweep() {
+    let word = |c: char| c.is_alphanumeric() || c.is_mark() || c.is_punctuation_connector();
+    let name = |c: char| c.is_alphanumeric() || c == '.' || c == '_' || c == '$';
+    let classes: [(&str, &dyn Fn(char) -> bool); 8] = [
+        ("is_whitespace", &char::is_whitespace),
+        ("is_alphabetic", &char::is_alphabetic),
+        ("is_numeric", &char::is_numeric),
+        ("is_mark", &|c| c.is_mark()),
+        ("is_punctuation_connector", &|c| c.is_punctuation_connector()),
+        ("is_alphanumeric", &char::is_alphanumeric),
+        ("is_word_character", &word),
+        ("is_placeholder_name_character", &name),
+    ];
+    for (class, test) in classes {
+        println!("{class}");
+        for (first, last) in ranges(test) {
+            println!("{first:04x} {last:04x}");
+        }
+    }
+}
+
 fn main() {
     let target = std::env::args().nth(1).expect("tables DIR, or tables sweep");
+    if target == "sweep" {
+        return sweep();
+    }
     fs::write(format!("{target}/src/ascii.rt"), ascii()).unwrap();
     for class in classes() {
         let ranges = ranges(class.test);

@@ -31,6 +31,7 @@ continuations-grow a b h = go (ltb a 0xC0) (ltb a 0xE0) (ltb a 0xF0) (ltb b 0xC0
   where
     apart : {P : Type 0} (k : ℕ) → ltb a k ≡ false → ltb b k ≡ true → P
     apart k e f = absurd (let x = ltb-false a k e in let y = ltb-true b k f in let z : ⊥ = omega arith in z)
+
     go : (t u v t′ u′ v′ : Bool) → ltb a 0xC0 ≡ t → ltb a 0xE0 ≡ u → ltb a 0xF0 ≡ v → ltb b 0xC0 ≡ t′ → ltb b 0xE0 ≡ u′ → ltb b 0xF0 ≡ v′
         → cond t 0 (cond u 1 (cond v 2 3)) ≤ cond t′ 0 (cond u′ 1 (cond v′ 2 3))
     go true u v t′ u′ v′ e f g e′ f′ g′ = zero-le
@@ -127,6 +128,7 @@ continued-high (suc n) (b ∷ s) k h = go (isContinuation b) refl k (λ j. conti
   where
     high : isContinuation b ≡ true → 0x80 ≤ b
     high e = leb-true 0x80 b (and-eq-true-iff (leb 0x80 b) (leb b 0xBF) .0 e .0)
+
     go : (t : Bool) → isContinuation b ≡ t → (k : ℕ) → ((j : ℕ) → j < continued n s → 0x80 ≤ getD s j 0) → k < cond t (suc (continued n s)) 0 → 0x80 ≤ getD (b ∷ s) k 0
     go true e zero f h = high e
     go true e (suc k) f h = f k (le-of-suc-le-suc h)
@@ -152,6 +154,7 @@ well-formed-step b t e = go (sequenceLength (b ∷ t)) refl
   where
     all : length (b ∷ t) ≤ wellFormedFrom 0 (b ∷ t)
     all = leb-true (length (b ∷ t)) (wellFormedFrom 0 (b ∷ t)) e
+
     go : (n : ℕ) → sequenceLength (b ∷ t) ≡ n → Step (b ∷ t)
     go zero q = absurd (let w = stop (b ∷ t) q in let z : ⊥ = omega (arith, all) in z)
     go (suc n) q =
@@ -176,5 +179,6 @@ ill-formed-nowhere s = (to, from)
         go : (t : Bool) → ltb (wellFormedFrom 0 s) (length s) ≡ t → leb (length s) (wellFormedFrom 0 s) ≡ true
         go true q = absurd (let n : At (wellFormedFrom 0 s) ≡ Nowhere = rw q at e in let z : _≡_ {A = ℕ} 0 1 = cc in let y : ⊥ = omega arith in y)
         go false q = le-leb (length s) (wellFormedFrom 0 s) (ltb-false (wellFormedFrom 0 s) (length s) q)
+
     from : leb (length s) (wellFormedFrom 0 s) ≡ true → cond (ltb (wellFormedFrom 0 s) (length s)) (At (wellFormedFrom 0 s)) Nowhere ≡ Nowhere
     from e = rw (le-ltb (wellFormedFrom 0 s) (length s) (leb-true (length s) (wellFormedFrom 0 s) e))

@@ -317,10 +317,25 @@ pub fn contains(c: u32) -> bool
     ensures { λ r. ⌜ r ≡ inRanges numeric c ⌝ }
 {
     match c {
-        0x0000..=0x19CF => in_ranges(&FROM_0030, c),
-        0x19D0..=0xAA4F => in_ranges(&FROM_19D0, c),
-        0xAA50..=0x10F50 => in_ranges(&FROM_AA50, c),
-        0x10F51..=0x1CCEF => in_ranges(&FROM_10F51, c),
-        _ => in_ranges(&FROM_1CCF0, c),
+        0x0000..=0x19CF => {
+            let part = FROM_0030;
+            in_ranges(&part, c)
+        }
+        0x19D0..=0xAA4F => {
+            let part = FROM_19D0;
+            in_ranges(&part, c)
+        }
+        0xAA50..=0x10F50 => {
+            let part = FROM_AA50;
+            in_ranges(&part, c)
+        }
+        0x10F51..=0x1CCEF => {
+            let part = FROM_10F51;
+            in_ranges(&part, c)
+        }
+        _ => {
+            let part = FROM_1CCF0;
+            in_ranges(&part, c)
+        }
     }
 }

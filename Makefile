@@ -1,0 +1,49 @@
+# make          proves the crates, builds the programs and runs one on a sample
+# make test     runs all tests; the last line counts them
+# make bench    prints speeds beside Rust's
+# make tables   prints the character tables anew (needs rustc and Debian's librust-unicode-categories-dev)
+
+build := target/test
+rust := rustc --edition 2021 -O
+categories := /usr/share/cargo/registry/unicode_categories-0.1.1/src/lib.rs
+
+.PHONY: all test bench tables
+
+all:
+	rt check
+	@echo
+	@echo "White_Space, as the program sweep finds it among all code points:"
+	@target/bin/sweep | sed -n '2,/^is_/p' | sed '$$d'
+
+test:
+	tools/setup
+	tests/run
+
+bench: $(build)/bench_unicode
+	$(build)/bench_unicode
+
+tables: $(build)/tables
+	$(build)/tables crates/unicode
+	$(build)/tables sweep > crates/sweep/stdout
+	rt fmt
+
+target/staticlib/lib%.a: crates/%/src/lib.rt FORCE
+	rt staticlib $*
+
+$(build)/bench_unicode: bench/unicode.rs tests/unicode/unicode.rs target/staticlib/libunicode_exports.a
+	@mkdir -p $(build)
+	$(rust) -o $@ $< -L target/staticlib -l static=unicode_exports
+
+$(build)/utf8: tests/unicode/utf8.rs tests/unicode/unicode.rs target/staticlib/libunicode_exports.a
+	@mkdir -p $(build)
+	$(rust) -o $@ $< -L target/staticlib -l static=unicode_exports
+
+# unicode_categories is older than its compiler, which warns of that
+$(build)/libunicode_categories.rlib: $(categories)
+	@mkdir -p $(build)
+	rustc --edition 2018 -O --cap-lints allow --crate-type rlib --crate-name unicode_categories -o $@ $<
+
+$(build)/tables: tools/tables.rs $(build)/libunicode_categories.rlib
+	$(rust) -o $@ $< --extern unicode_categories=$(build)/libunicode_categories.rlib
+
+FORCE:
