@@ -124,7 +124,7 @@ fn proof(class: &Class, ranges: &[Range]) -> String {
     let mut out = String::new();
     writeln!(out, "-- Each arm looks in the part of the table that serves its code points. Made by tools/tables.rs.").unwrap();
     writeln!(out, "-- Assumes nothing.").unwrap();
-    writeln!(out, "use mathlib.Core.Path.{{refl}}\nuse native.Mathlib.Omega.{{arith}}\nuse borrow.Author.Needs.{{needs}}").unwrap();
+    writeln!(out, "use native.Mathlib.Omega.{{arith}}\nuse mathlib.Core.Path.{{refl}}\nuse borrow.Author.Needs.{{needs}}").unwrap();
     writeln!(out, "use Rattle.unicode.specs.Ranges.{{endsOf}}\nuse Rattle.unicode.specs.{file}.{{{definition}}}").unwrap();
     writeln!(out, "use Rattle.unicode.proofs.Ordered.{{{law}}}\nuse Rattle.unicode.proofs.Parts.{{{laws}}}").unwrap();
     writeln!(out, "use Rattle.unicode.proofs.{module}.contains.Statement.{{statement}}").unwrap();

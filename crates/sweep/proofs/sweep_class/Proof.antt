@@ -2,10 +2,6 @@ use Prim.Native.Nat.{_-_, _≤_}
 use borrow.Author.Needs.{needs}
 use Rattle.sweep.proofs.sweep_class.Statement.{statement}
 use Rattle.sweep.proofs.sweep_class.Tie as tie
-use Rattle.sweep.proofs.sweep_class.Reads as reads
-use Rattle.sweep.proofs.sweep_class.Lts as lts
-use Rattle.sweep.proofs.contains.Reads as contains-reads
-use Rattle.sweep.proofs.print_range.Reads as print-range-reads
 
 abbrev Inv-loop : tie.InvT-loop
 Inv-loop class first₀ last₀ inside₀ c₀ first last inside c = c ≤ 0x110000
@@ -13,39 +9,30 @@ Inv-loop class first₀ last₀ inside₀ c₀ first last inside c = c ≤ 0x110
 abbrev μ-loop : tie.MeasureT-loop
 μ-loop class first₀ last₀ inside₀ c₀ first last inside c = 0x110000 - c
 
--- src/main.rt:44:5
 loop-holds : tie.Need-loop-holds Inv-loop μ-loop
 loop-holds c = search needs
 
--- src/main.rt:45:12
 contains-requires : tie.Need-contains-requires Inv-loop μ-loop
 contains-requires c κs = search needs
 
--- src/main.rt:53:17
 print-range-requires : tie.Need-print-range-requires Inv-loop μ-loop
 print-range-requires c κs = search needs
 
--- src/main.rt:44:9
 add-c : tie.Need-add-c Inv-loop μ-loop
 add-c c = search needs
 
--- src/main.rt:44:5
 loop-less : tie.Need-loop-less Inv-loop μ-loop
 loop-less c = search needs
 
--- src/main.rt:44:5
 loop-again : tie.Need-loop-again Inv-loop μ-loop
 loop-again c = search needs
 
--- src/main.rt:59:9
 print-range-requires-2 : tie.Need-print-range-requires-2 Inv-loop μ-loop
 print-range-requires-2 c κs = search needs
 
--- src/main.rt:40:1
 returns : tie.Need-returns Inv-loop μ-loop
 returns c = search needs
 
--- src/main.rt:40:1
 returns-2 : tie.Need-returns-2 Inv-loop μ-loop
 returns-2 c = search needs
 

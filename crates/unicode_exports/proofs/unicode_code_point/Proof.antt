@@ -1,18 +1,13 @@
 use mathlib.Core.Path.{ap}
+use borrow.Author.Needs.{needs}
 use Rattle.unicode.specs.declared.Character.{Character}
 use Rattle.unicode.specs.Character.{character}
-use borrow.Author.Needs.{needs}
 use Rattle.unicode_exports.proofs.unicode_code_point.Statement.{statement}
 use Rattle.unicode_exports.proofs.unicode_code_point.Tie as tie
-use Rattle.unicode_exports.proofs.unicode_code_point.Reads as reads
-use Rattle.unicode_exports.proofs.unicode_code_point.Lts as lts
-use Rattle.unicode.proofs.character_at.Reads as character-at-reads
 
--- src/lib.rt:25:9
 character-at-requires : tie.Need-character-at-requires
 character-at-requires c κs = search needs
 
--- src/lib.rt:21:1
 returns : tie.Need-returns
 unfolding character
 returns c = ap (λ (x : Character). x .«code_point») (c .character-at .ensures)

@@ -1,7 +1,7 @@
 -- Each arm looks in the part of the table that serves its code points. Made by tools/tables.rs.
 -- Assumes nothing.
-use mathlib.Core.Path.{refl}
 use native.Mathlib.Omega.{arith}
+use mathlib.Core.Path.{refl}
 use borrow.Author.Needs.{needs}
 use Rattle.unicode.specs.Ranges.{endsOf}
 use Rattle.unicode.specs.Alphabetic.{alphabetic}

@@ -1,3 +1,4 @@
+use borrow.Author.Needs.{needs}
 use Rattle.unicode.specs.Ranges.{within, inRanges}
 use Rattle.unicode.specs.WhiteSpace.{whiteSpace}
 use Rattle.unicode.specs.Alphabetic.{alphabetic}
@@ -6,17 +7,12 @@ use Rattle.unicode.specs.Connector.{connector}
 use Rattle.unicode.specs.Classes.{isWhitespace, isAlphabetic, isNumeric, isPunctuationConnector}
 use Rattle.unicode.specs.Ascii.{asciiKind}
 use Rattle.unicode.proofs.AsciiTable.{ascii-entry}
-use borrow.Author.Needs.{needs}
 use Rattle.unicode.proofs.ascii.kind.Statement.{statement}
 use Rattle.unicode.proofs.ascii.kind.Tie as tie
-use Rattle.unicode.proofs.ascii.kind.Reads as reads
-use Rattle.unicode.proofs.ascii.kind.Lts as lts
 
--- src/ascii.rt:150:5
 array-read-result : tie.Need-array-read-result
 array-read-result c = search needs
 
--- src/ascii.rt:146:1
 returns : tie.Need-returns
 unfolding asciiKind isWhitespace isAlphabetic isNumeric isPunctuationConnector inRanges within whiteSpace alphabetic numeric connector
 returns c = ascii-entry (c .args .c) (c .pre)

@@ -1,21 +1,15 @@
+use borrow.Author.Needs.{needs}
 use Rattle.unicode.specs.Classes.{isMark}
 use Rattle.unicode.proofs.AsciiTable.{ascii-mark}
-use borrow.Author.Needs.{needs}
 use Rattle.unicode.proofs.classes.is_mark.Statement.{statement}
 use Rattle.unicode.proofs.classes.is_mark.Tie as tie
-use Rattle.unicode.proofs.classes.is_mark.Reads as reads
-use Rattle.unicode.proofs.classes.is_mark.Lts as lts
-use Rattle.unicode.proofs.mark.contains.Reads as contains-reads
 
--- src/classes.rt:43:9
 returns : tie.Need-returns
 returns c = search ascii-mark
 
--- src/classes.rt:45:5
 contains-requires : tie.Need-contains-requires
 contains-requires c κs = search needs
 
--- src/classes.rt:39:1
 returns-2 : tie.Need-returns-2
 unfolding isMark
 returns-2 c = c .contains .ensures

@@ -1,47 +1,33 @@
+use borrow.Author.Needs.{needs}
 use Rattle.unicode.proofs.Either.{or-first, or-second}
 use Rattle.unicode.specs.Classes.{isWordCharacter}
 use Rattle.unicode.proofs.AsciiTable.{ascii-word}
-use borrow.Author.Needs.{needs}
 use Rattle.unicode.proofs.classes.is_word_character.Statement.{statement}
 use Rattle.unicode.proofs.classes.is_word_character.Tie as tie
-use Rattle.unicode.proofs.classes.is_word_character.Reads as reads
-use Rattle.unicode.proofs.classes.is_word_character.Lts as lts
-use Rattle.unicode.proofs.ascii.kind.Reads as kind-reads
-use Rattle.unicode.proofs.classes.is_alphanumeric.Reads as is-alphanumeric-reads
-use Rattle.unicode.proofs.classes.is_mark.Reads as is-mark-reads
-use Rattle.unicode.proofs.classes.is_punctuation_connector.Reads as is-punctuation-connector-reads
 
--- src/classes.rt:68:37
 kind-requires : tie.Need-kind-requires
 kind-requires c κs = search needs
 
--- src/classes.rt:68:9
 returns : tie.Need-returns
 returns c = search ascii-word
 
--- src/classes.rt:70:5
 is-alphanumeric-requires : tie.Need-is-alphanumeric-requires
 is-alphanumeric-requires c κs = search needs
 
--- src/classes.rt:70:28
 is-mark-requires : tie.Need-is-mark-requires
 is-mark-requires c κs = search needs
 
--- src/classes.rt:70:42
 is-punctuation-connector-requires : tie.Need-is-punctuation-connector-requires
 is-punctuation-connector-requires c κs = search needs
 
--- src/classes.rt:64:1
 returns-2 : tie.Need-returns-2
 unfolding isWordCharacter
 returns-2 c = search (or-first, or-second)
 
--- src/classes.rt:64:1
 returns-3 : tie.Need-returns-3
 unfolding isWordCharacter
 returns-3 c = search (or-first, or-second)
 
--- src/classes.rt:64:1
 returns-4 : tie.Need-returns-4
 unfolding isWordCharacter
 returns-4 c = search (or-first, or-second)

@@ -1,47 +1,33 @@
+use borrow.Author.Needs.{needs}
 use Rattle.unicode.proofs.Decoding.{decode-past}
 use Rattle.unicode.proofs.Validation.{part-end}
-use borrow.Author.Needs.{needs}
 use Rattle.unicode.proofs.decode.character_at.Statement.{statement}
 use Rattle.unicode.proofs.decode.character_at.Tie as tie
-use Rattle.unicode.proofs.decode.character_at.Reads as reads
-use Rattle.unicode.proofs.decode.character_at.Lts as lts
-use Rattle.unicode.proofs.decode.continuations_of.Reads as continuations-of-reads
-use Rattle.unicode.proofs.decode.first_bits.Reads as first-bits-reads
-use Rattle.unicode.proofs.decode.with_continuations.Reads as with-continuations-reads
 
--- src/decode.rt:88:9
 returns : tie.Need-returns
 returns c = search decode-past
 
--- src/decode.rt:93:17
 sub-bytes : tie.Need-sub-bytes
 sub-bytes c = search needs
 
--- src/decode.rt:93:17
 part-bytes-start : tie.Need-part-bytes-start
 part-bytes-start c = search needs
 
--- src/decode.rt:93:17
 part-bytes-end : tie.Need-part-bytes-end
 part-bytes-end c = search needs
 
--- src/decode.rt:94:17
 shared-slice-read-first : tie.Need-shared-slice-read-first
 shared-slice-read-first c = search needs
 
--- src/decode.rt:95:31
 continuations-of-requires : tie.Need-continuations-of-requires
 continuations-of-requires c κs = search needs
 
--- src/decode.rt:95:56
 first-bits-requires : tie.Need-first-bits-requires
 first-bits-requires c κs = search needs
 
--- src/decode.rt:95:5
 with-continuations-requires : tie.Need-with-continuations-requires
 with-continuations-requires c κs = search needs
 
--- src/decode.rt:84:1
 returns-2 : tie.Need-returns-2
 returns-2 c = rw part-end at (c .with-continuations .ensures)
 

@@ -1,27 +1,20 @@
 use borrow.Author.Tests.{lt-ltb, le-ltb}
 use Rattle.unicode.specs.Character.{continuations}
-use borrow.Author.Needs.{needs}
 use Rattle.unicode.proofs.decode.continuations_of.Statement.{statement}
 use Rattle.unicode.proofs.decode.continuations_of.Tie as tie
-use Rattle.unicode.proofs.decode.continuations_of.Reads as reads
-use Rattle.unicode.proofs.decode.continuations_of.Lts as lts
 
--- src/decode.rt:14:1
 returns : tie.Need-returns
 unfolding continuations
 returns c = rw (lt-ltb _ _ (c .if1 .taken))
 
--- src/decode.rt:14:1
 returns-2 : tie.Need-returns-2
 unfolding continuations
 returns-2 c = rw (le-ltb _ _ (c .before .if1 .left), lt-ltb _ _ (c .if2 .taken))
 
--- src/decode.rt:14:1
 returns-3 : tie.Need-returns-3
 unfolding continuations
 returns-3 c = rw (le-ltb _ _ (c .before .before .if1 .left), le-ltb _ _ (c .before .if2 .left), lt-ltb _ _ (c .if3 .taken))
 
--- src/decode.rt:14:1
 returns-4 : tie.Need-returns-4
 unfolding continuations
 returns-4 c = rw (le-ltb _ _ (c .before .before .if1 .left), le-ltb _ _ (c .before .if2 .left), le-ltb _ _ (c .if3 .left))

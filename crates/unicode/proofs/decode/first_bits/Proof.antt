@@ -1,50 +1,38 @@
-use borrow.Author.Tests.{lt-ltb, le-ltb}
 use mathlib.Core.Path.{_∙_}
-use Rattle.unicode.specs.Character.{firstBits}
+use borrow.Author.Tests.{lt-ltb, le-ltb}
 use borrow.Author.Needs.{needs}
+use Rattle.unicode.specs.Character.{firstBits}
 use Rattle.unicode.proofs.decode.first_bits.Statement.{statement}
 use Rattle.unicode.proofs.decode.first_bits.Tie as tie
-use Rattle.unicode.proofs.decode.first_bits.Reads as reads
-use Rattle.unicode.proofs.decode.first_bits.Lts as lts
-use Rattle.unicode.proofs.decode.wide.Reads as wide-reads
 
--- src/decode.rt:32:9
 wide-requires : tie.Need-wide-requires
 wide-requires c κs = search needs
 
--- src/decode.rt:36:9
 wide-requires-2 : tie.Need-wide-requires-2
 wide-requires-2 c κs = search needs
 
--- src/decode.rt:38:9
 wide-requires-3 : tie.Need-wide-requires-3
 wide-requires-3 c κs = search needs
 
--- src/decode.rt:40:9
 wide-requires-4 : tie.Need-wide-requires-4
 wide-requires-4 c κs = search needs
 
--- src/decode.rt:28:1
 returns : tie.Need-returns
 unfolding firstBits
 returns c = c .wide .ensures ∙ rw (lt-ltb _ _ (c .before .if1 .taken))
 
--- src/decode.rt:28:1
 returns-2 : tie.Need-returns-2
 unfolding firstBits
 returns-2 c = rw (le-ltb _ _ (c .before .if1 .left), lt-ltb _ _ (c .if2 .taken))
 
--- src/decode.rt:28:1
 returns-3 : tie.Need-returns-3
 unfolding firstBits
 returns-3 c = c .wide2 .ensures ∙ rw (le-ltb _ _ (c .before .before .before .if1 .left), le-ltb _ _ (c .before .before .if2 .left), lt-ltb _ _ (c .before .if3 .taken))
 
--- src/decode.rt:28:1
 returns-4 : tie.Need-returns-4
 unfolding firstBits
 returns-4 c = c .wide3 .ensures ∙ rw (le-ltb _ _ (c .before .before .before .before .if1 .left), le-ltb _ _ (c .before .before .before .if2 .left), le-ltb _ _ (c .before .before .if3 .left), lt-ltb _ _ (c .before .if4 .taken))
 
--- src/decode.rt:28:1
 returns-5 : tie.Need-returns-5
 unfolding firstBits
 returns-5 c = c .wide4 .ensures ∙ rw (le-ltb _ _ (c .before .before .before .before .if1 .left), le-ltb _ _ (c .before .before .before .if2 .left), le-ltb _ _ (c .before .before .if3 .left), le-ltb _ _ (c .before .if4 .left))

@@ -1,18 +1,13 @@
 use borrow.Author.Tests.{le-leb, lt-leb}
 use Rattle.unicode.specs.Ranges.{within}
 use Rattle.unicode.specs.Character.{isContinuation}
-use borrow.Author.Needs.{needs}
 use Rattle.unicode.proofs.decode.is_continuation.Statement.{statement}
 use Rattle.unicode.proofs.decode.is_continuation.Tie as tie
-use Rattle.unicode.proofs.decode.is_continuation.Reads as reads
-use Rattle.unicode.proofs.decode.is_continuation.Lts as lts
 
--- src/decode.rt:8:1
 returns : tie.Need-returns
 unfolding isContinuation within
 returns c = rw (le-leb _ _ (c .if1 .taken))
 
--- src/decode.rt:8:1
 returns-2 : tie.Need-returns-2
 unfolding isContinuation within
 returns-2 c = rw (lt-leb _ _ (c .if1 .left))

@@ -1,13 +1,10 @@
-use lib.ListN.{length}
 use Prim.Native.Nat.{_-_}
+use lib.ListN.{length}
+use borrow.Author.Needs.{needs}
 use Rattle.unicode.specs.Blocks.{AsciiUpTo}
 use Rattle.unicode.proofs.Blocks.{ascii-start, ascii-block}
-use borrow.Author.Needs.{needs}
 use Rattle.unicode.proofs.utf8.ascii_blocks.Statement.{statement}
 use Rattle.unicode.proofs.utf8.ascii_blocks.Tie as tie
-use Rattle.unicode.proofs.utf8.ascii_blocks.Reads as reads
-use Rattle.unicode.proofs.utf8.ascii_blocks.Lts as lts
-use Rattle.unicode.proofs.utf8.sixteen_ascii.Reads as sixteen-ascii-reads
 
 abbrev Inv-loop : tie.InvT-loop
 Inv-loop bytes i₀ i = AsciiUpTo bytes i
@@ -15,35 +12,27 @@ Inv-loop bytes i₀ i = AsciiUpTo bytes i
 abbrev μ-loop : tie.MeasureT-loop
 μ-loop bytes i₀ i = length bytes - i
 
--- src/utf8.rt:35:5
 loop-holds : tie.Need-loop-holds Inv-loop μ-loop
 loop-holds c = search ascii-start
 
--- src/utf8.rt:35:11
 add-loop : tie.Need-add-loop Inv-loop μ-loop
 add-loop c = search needs
 
--- src/utf8.rt:36:12
 sixteen-ascii-requires : tie.Need-sixteen-ascii-requires Inv-loop μ-loop
 sixteen-ascii-requires c κs = search needs
 
--- src/utf8.rt:37:13
 add-i : tie.Need-add-i Inv-loop μ-loop
 add-i c = search needs
 
--- src/utf8.rt:35:5
 loop-less : tie.Need-loop-less Inv-loop μ-loop
 loop-less c = search needs
 
--- src/utf8.rt:35:5
 loop-again : tie.Need-loop-again Inv-loop μ-loop
 loop-again c = search ascii-block
 
--- src/utf8.rt:39:13
 returns : tie.Need-returns Inv-loop μ-loop
 returns c = search needs
 
--- src/utf8.rt:31:1
 returns-2 : tie.Need-returns-2 Inv-loop μ-loop
 returns-2 c = search needs
 

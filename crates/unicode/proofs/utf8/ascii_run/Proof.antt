@@ -1,13 +1,10 @@
-use lib.ListN.{length}
 use Prim.Native.Nat.{_-_}
+use lib.ListN.{length}
+use borrow.Author.Needs.{needs}
 use Rattle.unicode.specs.Blocks.{AsciiUpTo}
 use Rattle.unicode.proofs.Blocks.{ascii-one, ascii-stop, ascii-end}
-use borrow.Author.Needs.{needs}
 use Rattle.unicode.proofs.utf8.ascii_run.Statement.{statement}
 use Rattle.unicode.proofs.utf8.ascii_run.Tie as tie
-use Rattle.unicode.proofs.utf8.ascii_run.Reads as reads
-use Rattle.unicode.proofs.utf8.ascii_run.Lts as lts
-use Rattle.unicode.proofs.utf8.ascii_blocks.Reads as ascii-blocks-reads
 
 abbrev Inv-loop : tie.InvT-loop
 Inv-loop bytes i₀ i = AsciiUpTo bytes i
@@ -15,35 +12,27 @@ Inv-loop bytes i₀ i = AsciiUpTo bytes i
 abbrev μ-loop : tie.MeasureT-loop
 μ-loop bytes i₀ i = length bytes - i
 
--- src/utf8.rt:49:9
 ascii-blocks-requires : tie.Need-ascii-blocks-requires Inv-loop μ-loop
 ascii-blocks-requires c κs = search needs
 
--- src/utf8.rt:50:5
 loop-holds : tie.Need-loop-holds Inv-loop μ-loop
 loop-holds c = search needs
 
--- src/utf8.rt:51:12
 shared-slice-read-if1 : tie.Need-shared-slice-read-if1 Inv-loop μ-loop
 shared-slice-read-if1 c = search needs
 
--- src/utf8.rt:52:13
 add-i : tie.Need-add-i Inv-loop μ-loop
 add-i c = search needs
 
--- src/utf8.rt:50:5
 loop-less : tie.Need-loop-less Inv-loop μ-loop
 loop-less c = search needs
 
--- src/utf8.rt:50:5
 loop-again : tie.Need-loop-again Inv-loop μ-loop
 loop-again c = search ascii-one
 
--- src/utf8.rt:54:13
 returns : tie.Need-returns Inv-loop μ-loop
 returns c = search ascii-stop
 
--- src/utf8.rt:46:1
 returns-2 : tie.Need-returns-2 Inv-loop μ-loop
 returns-2 c = search ascii-end
 

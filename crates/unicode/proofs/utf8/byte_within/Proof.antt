@@ -1,23 +1,17 @@
-use Rattle.unicode.proofs.Sequences.{byte-below, byte-from, byte-none}
 use borrow.Author.Needs.{needs}
+use Rattle.unicode.proofs.Sequences.{byte-below, byte-from, byte-none}
 use Rattle.unicode.proofs.utf8.byte_within.Statement.{statement}
 use Rattle.unicode.proofs.utf8.byte_within.Tie as tie
-use Rattle.unicode.proofs.utf8.byte_within.Reads as reads
-use Rattle.unicode.proofs.utf8.byte_within.Lts as lts
 
--- src/utf8.rt:65:17
 shared-slice-read-b : tie.Need-shared-slice-read-b
 shared-slice-read-b c = search needs
 
--- src/utf8.rt:66:9
 returns : tie.Need-returns
 returns c = search byte-from
 
--- src/utf8.rt:66:9
 returns-2 : tie.Need-returns-2
 returns-2 c = search byte-below
 
--- src/utf8.rt:61:1
 returns-3 : tie.Need-returns-3
 returns-3 c = search byte-none
 

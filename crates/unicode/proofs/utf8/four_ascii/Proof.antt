@@ -2,38 +2,28 @@ use borrow.Author.Needs.{needs}
 use Rattle.unicode.proofs.Blocks.{four-are}
 use Rattle.unicode.proofs.utf8.four_ascii.Statement.{statement}
 use Rattle.unicode.proofs.utf8.four_ascii.Tie as tie
-use Rattle.unicode.proofs.utf8.four_ascii.Reads as reads
-use Rattle.unicode.proofs.utf8.four_ascii.Lts as lts
 
--- src/utf8.rt:16:6
 shared-slice-read-result : tie.Need-shared-slice-read-result
 shared-slice-read-result c = search needs
 
--- src/utf8.rt:16:32
 add-result : tie.Need-add-result
 add-result c = search needs
 
--- src/utf8.rt:16:26
 shared-slice-read-result-2 : tie.Need-shared-slice-read-result-2
 shared-slice-read-result-2 c = search needs
 
--- src/utf8.rt:16:56
 add-result-2 : tie.Need-add-result-2
 add-result-2 c = search needs
 
--- src/utf8.rt:16:50
 shared-slice-read-result-3 : tie.Need-shared-slice-read-result-3
 shared-slice-read-result-3 c = search needs
 
--- src/utf8.rt:16:80
 add-result-3 : tie.Need-add-result-3
 add-result-3 c = search needs
 
--- src/utf8.rt:16:74
 shared-slice-read-result-4 : tie.Need-shared-slice-read-result-4
 shared-slice-read-result-4 c = search needs
 
--- src/utf8.rt:12:1
 returns : tie.Need-returns
 returns c = four-are _ _ (c .before .before .before .before .pre)
 

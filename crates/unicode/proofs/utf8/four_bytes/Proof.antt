@@ -1,36 +1,26 @@
-use Rattle.unicode.proofs.Sequences.{second-no, third-no, fourth-no, fourth-yes}
 use borrow.Author.Needs.{needs}
+use Rattle.unicode.proofs.Sequences.{second-no, third-no, fourth-no, fourth-yes}
 use Rattle.unicode.proofs.utf8.four_bytes.Statement.{statement}
 use Rattle.unicode.proofs.utf8.four_bytes.Tie as tie
-use Rattle.unicode.proofs.utf8.four_bytes.Reads as reads
-use Rattle.unicode.proofs.utf8.four_bytes.Lts as lts
-use Rattle.unicode.proofs.utf8.byte_within.Reads as byte-within-reads
 
--- src/utf8.rt:96:8
 byte-within-requires : tie.Need-byte-within-requires
 byte-within-requires c κs = search needs
 
--- src/utf8.rt:97:12
 byte-within-requires-2 : tie.Need-byte-within-requires-2
 byte-within-requires-2 c κs = search needs
 
--- src/utf8.rt:98:16
 byte-within-requires-3 : tie.Need-byte-within-requires-3
 byte-within-requires-3 c κs = search needs
 
--- src/utf8.rt:99:17
 returns : tie.Need-returns
 returns c = search fourth-yes
 
--- src/utf8.rt:93:1
 returns-2 : tie.Need-returns-2
 returns-2 c = search fourth-no
 
--- src/utf8.rt:93:1
 returns-3 : tie.Need-returns-3
 returns-3 c = search third-no
 
--- src/utf8.rt:93:1
 returns-4 : tie.Need-returns-4
 returns-4 c = search second-no
 

@@ -1,107 +1,81 @@
-use mathlib.Core.Path.{refl}
 use native.Mathlib.Omega.{arith}
+use mathlib.Core.Path.{refl}
+use borrow.Author.Needs.{needs}
 use Rattle.unicode.specs.Utf8.{table-3-7, startsWith}
 use Rattle.unicode.proofs.Sequences.{sequence-none, sequence-row, sequence-between, sequence-gap}
-use borrow.Author.Needs.{needs}
 use Rattle.unicode.proofs.utf8.sequence_length.Statement.{statement}
 use Rattle.unicode.proofs.utf8.sequence_length.Tie as tie
-use Rattle.unicode.proofs.utf8.sequence_length.Reads as reads
-use Rattle.unicode.proofs.utf8.sequence_length.Lts as lts
-use Rattle.unicode.proofs.utf8.four_bytes.Reads as four-bytes-reads
-use Rattle.unicode.proofs.utf8.three_bytes.Reads as three-bytes-reads
-use Rattle.unicode.proofs.utf8.two_bytes.Reads as two-bytes-reads
 
--- src/utf8.rt:111:9
 returns : tie.Need-returns
 returns c = search sequence-none
 
--- src/utf8.rt:113:17
 shared-slice-read-first : tie.Need-shared-slice-read-first
 shared-slice-read-first c = search needs
 
--- src/utf8.rt:117:17
 three-bytes-requires : tie.Need-three-bytes-requires
 three-bytes-requires c κs = search needs
 
--- src/utf8.rt:119:17
 three-bytes-requires-2 : tie.Need-three-bytes-requires-2
 three-bytes-requires-2 c κs = search needs
 
--- src/utf8.rt:121:17
 four-bytes-requires : tie.Need-four-bytes-requires
 four-bytes-requires c κs = search needs
 
--- src/utf8.rt:123:17
 four-bytes-requires-2 : tie.Need-four-bytes-requires-2
 four-bytes-requires-2 c κs = search needs
 
--- src/utf8.rt:116:24
 two-bytes-requires : tie.Need-two-bytes-requires
 two-bytes-requires c κs = search needs
 
--- src/utf8.rt:118:24
 three-bytes-requires-3 : tie.Need-three-bytes-requires-3
 three-bytes-requires-3 c κs = search needs
 
--- src/utf8.rt:120:24
 three-bytes-requires-4 : tie.Need-three-bytes-requires-4
 three-bytes-requires-4 c κs = search needs
 
--- src/utf8.rt:122:24
 four-bytes-requires-3 : tie.Need-four-bytes-requires-3
 four-bytes-requires-3 c κs = search needs
 
--- src/utf8.rt:107:1
 returns-2 : tie.Need-returns-2
 unfolding table-3-7
 returns-2 c = sequence-row 2 _ _ (omega arith) (omega arith) (omega arith) (c .three-bytes .ensures)
 
--- src/utf8.rt:107:1
 returns-3 : tie.Need-returns-3
 unfolding table-3-7
 returns-3 c = sequence-row 4 _ _ (omega arith) (omega arith) (omega arith) (c .three-bytes2 .ensures)
 
--- src/utf8.rt:107:1
 returns-4 : tie.Need-returns-4
 unfolding table-3-7
 returns-4 c = sequence-row 6 _ _ (omega arith) (omega arith) (omega arith) (c .four-bytes .ensures)
 
--- src/utf8.rt:107:1
 returns-5 : tie.Need-returns-5
 unfolding table-3-7
 returns-5 c = sequence-row 8 _ _ (omega arith) (omega arith) (omega arith) (c .four-bytes2 .ensures)
 
--- src/utf8.rt:107:1
 returns-6 : tie.Need-returns-6
 unfolding table-3-7 startsWith
 returns-6 c = sequence-row 0 _ _ (omega arith) (omega arith) (omega arith) refl
 
--- src/utf8.rt:107:1
 returns-7 : tie.Need-returns-7
 unfolding table-3-7
 returns-7 c = sequence-row 1 _ _ (omega arith) (omega arith) (omega arith) (c .two-bytes .ensures)
 
--- src/utf8.rt:107:1
 returns-8 : tie.Need-returns-8
 unfolding table-3-7
 returns-8 c = sequence-row 3 _ _ (omega arith) (omega arith) (omega arith) (c .three-bytes3 .ensures)
 
--- src/utf8.rt:107:1
 returns-9 : tie.Need-returns-9
 unfolding table-3-7
 returns-9 c = sequence-row 5 _ _ (omega arith) (omega arith) (omega arith) (c .three-bytes4 .ensures)
 
--- src/utf8.rt:107:1
 returns-10 : tie.Need-returns-10
 unfolding table-3-7
 returns-10 c = sequence-row 7 _ _ (omega arith) (omega arith) (omega arith) (c .four-bytes3 .ensures)
 
--- src/utf8.rt:107:1
 returns-11 : tie.Need-returns-11
 unfolding table-3-7
 returns-11 c = sequence-between 1 0xC1 refl _ (omega arith) (omega arith) (omega arith)
 
--- src/utf8.rt:107:1
 returns-12 : tie.Need-returns-12
 unfolding table-3-7
 returns-12 c = sequence-gap 9 _ (omega arith) (omega arith) refl

@@ -1,40 +1,29 @@
-use Rattle.unicode.proofs.Blocks.{sixteen-are}
 use borrow.Author.Needs.{needs}
+use Rattle.unicode.proofs.Blocks.{sixteen-are}
 use Rattle.unicode.proofs.utf8.sixteen_ascii.Statement.{statement}
 use Rattle.unicode.proofs.utf8.sixteen_ascii.Tie as tie
-use Rattle.unicode.proofs.utf8.sixteen_ascii.Reads as reads
-use Rattle.unicode.proofs.utf8.sixteen_ascii.Lts as lts
-use Rattle.unicode.proofs.utf8.four_ascii.Reads as four-ascii-reads
 
--- src/utf8.rt:24:5
 four-ascii-requires : tie.Need-four-ascii-requires
 four-ascii-requires c κs = search needs
 
--- src/utf8.rt:25:29
 add-four-ascii : tie.Need-add-four-ascii
 add-four-ascii c = search needs
 
--- src/utf8.rt:25:11
 four-ascii-requires-2 : tie.Need-four-ascii-requires-2
 four-ascii-requires-2 c κs = search needs
 
--- src/utf8.rt:26:29
 add-four-ascii-2 : tie.Need-add-four-ascii-2
 add-four-ascii-2 c = search needs
 
--- src/utf8.rt:26:11
 four-ascii-requires-3 : tie.Need-four-ascii-requires-3
 four-ascii-requires-3 c κs = search needs
 
--- src/utf8.rt:27:29
 add-four-ascii-3 : tie.Need-add-four-ascii-3
 add-four-ascii-3 c = search needs
 
--- src/utf8.rt:27:11
 four-ascii-requires-4 : tie.Need-four-ascii-requires-4
 four-ascii-requires-4 c κs = search needs
 
--- src/utf8.rt:20:1
 returns : tie.Need-returns
 returns c = search sixteen-are
 

@@ -1,28 +1,20 @@
-use Rattle.unicode.proofs.Sequences.{second-no, third-yes, third-no}
 use borrow.Author.Needs.{needs}
+use Rattle.unicode.proofs.Sequences.{second-no, third-yes, third-no}
 use Rattle.unicode.proofs.utf8.three_bytes.Statement.{statement}
 use Rattle.unicode.proofs.utf8.three_bytes.Tie as tie
-use Rattle.unicode.proofs.utf8.three_bytes.Reads as reads
-use Rattle.unicode.proofs.utf8.three_bytes.Lts as lts
-use Rattle.unicode.proofs.utf8.byte_within.Reads as byte-within-reads
 
--- src/utf8.rt:85:8
 byte-within-requires : tie.Need-byte-within-requires
 byte-within-requires c κs = search needs
 
--- src/utf8.rt:86:12
 byte-within-requires-2 : tie.Need-byte-within-requires-2
 byte-within-requires-2 c κs = search needs
 
--- src/utf8.rt:87:13
 returns : tie.Need-returns
 returns c = search third-yes
 
--- src/utf8.rt:82:1
 returns-2 : tie.Need-returns-2
 returns-2 c = search third-no
 
--- src/utf8.rt:82:1
 returns-3 : tie.Need-returns-3
 returns-3 c = search second-no
 

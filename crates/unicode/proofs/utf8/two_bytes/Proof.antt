@@ -1,20 +1,14 @@
-use Rattle.unicode.proofs.Sequences.{second-yes, second-no}
 use borrow.Author.Needs.{needs}
+use Rattle.unicode.proofs.Sequences.{second-yes, second-no}
 use Rattle.unicode.proofs.utf8.two_bytes.Statement.{statement}
 use Rattle.unicode.proofs.utf8.two_bytes.Tie as tie
-use Rattle.unicode.proofs.utf8.two_bytes.Reads as reads
-use Rattle.unicode.proofs.utf8.two_bytes.Lts as lts
-use Rattle.unicode.proofs.utf8.byte_within.Reads as byte-within-reads
 
--- src/utf8.rt:75:8
 byte-within-requires : tie.Need-byte-within-requires
 byte-within-requires c κs = search needs
 
--- src/utf8.rt:72:1
 returns : tie.Need-returns
 returns c = search second-yes
 
--- src/utf8.rt:72:1
 returns-2 : tie.Need-returns-2
 returns-2 c = search second-no
 
