@@ -28,7 +28,7 @@ tables: $(build)/tables
 	rt fmt
 
 target/staticlib/lib%.a: crates/%/src/lib.rt FORCE
-	rt staticlib $*
+	@rt staticlib $* > target/staticlib.log 2>&1 || { cat target/staticlib.log; exit 1; }
 
 $(build)/bench_unicode: bench/unicode.rs tests/unicode/unicode.rs target/staticlib/libunicode_exports.a
 	@mkdir -p $(build)
