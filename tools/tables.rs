@@ -162,8 +162,8 @@ fn proof(class: &Class, ranges: &[Range]) -> String {
 fn ascii() -> String {
     let mut out = String::new();
     writeln!(out, "// The classes of the 128 ASCII characters. Made by tools/tables.rs.").unwrap();
-    writeln!(out, "ghost use mathlib.Core.Path.{{_≡_}};\nghost use Prim.Native.Nat.{{_<_}};").unwrap();
-    writeln!(out, "ghost use Rattle.unicode.specs.Ascii.{{asciiKind}};\n").unwrap();
+    writeln!(out, "ghost use mathlib.Core.Path.{{_≡_}};").unwrap();
+    writeln!(out, "ghost use Rattle.unicode.specs.Ascii.{{asciiKinds}};\n").unwrap();
     writeln!(out, "pub const WHITE_SPACE: u8 = 1;\npub const ALPHABETIC: u8 = 2;\npub const NUMERIC: u8 = 3;\npub const CONNECTOR: u8 = 4;\n").unwrap();
     writeln!(out, "const KINDS: [u8; 128] = [").unwrap();
     for c in (0..128).filter_map(char::from_u32) {
@@ -171,8 +171,8 @@ fn ascii() -> String {
         writeln!(out, "    {},", tests.iter().position(|t| *t).map_or(0, |i| i + 1)).unwrap();
     }
     writeln!(out, "];\n").unwrap();
-    writeln!(out, "// The number of the class that c has, 0 where it has none.\npub fn kind(c: u32) -> u8").unwrap();
-    writeln!(out, "    requires {{ ⌜ c < 128 ⌝ }}\n    ensures {{ λ r. ⌜ r ≡ asciiKind c ⌝ }}\n{{\n    KINDS[c as usize]\n}}").unwrap();
+    writeln!(out, "// The table, for a loop to evaluate once.\npub fn kinds() -> [u8; 128]").unwrap();
+    writeln!(out, "    ensures {{ λ r. ⌜ r ≡ asciiKinds ⌝ }}\n{{\n    KINDS\n}}").unwrap();
     out
 }
 

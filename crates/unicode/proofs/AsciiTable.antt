@@ -5,7 +5,7 @@ use native.Mathlib.Nat.{add-zero, zero-add, add-suc, suc-add, eq-or-lt-of-le, le
 use mathlib.Core.Path.{_≡_, refl, sym, _∙_}
 use mathlib.Core.Logic.{⊎-elim}
 use mathlib.Core.List.{List, [], _∷_}
-use mathlib.Core.Bool.{Bool, true, false, _&&_, Bool·beq, false≢true, and-eq-true-iff}
+use mathlib.Core.Bool.{Bool, true, false, _&&_, _||_, Bool·beq, or-assoc, false≢true, and-eq-true-iff}
 use lib.ListN.{getD}
 use lib.Dec.{leb, eqb}
 use Rattle.unicode.specs.Ranges.{within, inRanges}
@@ -14,8 +14,8 @@ use Rattle.unicode.specs.Alphabetic.{alphabetic}
 use Rattle.unicode.specs.Numeric.{numeric}
 use Rattle.unicode.specs.Mark.{mark}
 use Rattle.unicode.specs.Connector.{connector}
-use Rattle.unicode.specs.Classes.{isWhitespace, isAlphabetic, isNumeric, isMark, isPunctuationConnector, isAlphanumeric, isWordCharacter}
-use Rattle.unicode.specs.Ascii.{asciiKind}
+use Rattle.unicode.specs.Classes.{isWhitespace, isAlphabetic, isNumeric, isMark, isPunctuationConnector, isAlphanumeric, isWordCharacter, isPlaceholderNameCharacter}
+use Rattle.unicode.specs.Ascii.{asciiKind, listed, asciiKinds}
 
 -- f passes at each number below n
 abbrev pub allBelow : (ℕ → Bool) → ℕ → Bool
@@ -34,18 +34,14 @@ same true false e = sym e
 same false true e = e
 same false false e = refl
 
--- the list of f's values at the n numbers from i on
-abbrev pub listed : (ℕ → ℕ) → ℕ → ℕ → List ℕ
-listed f i zero = []
-listed f i (suc n) = f i ∷ listed f (suc i) n
-
 listed-at : (f : ℕ → ℕ) (i n k : ℕ) → k < n → getD (listed f i n) k 0 ≡ f (i + k)
+unfolding listed
 listed-at f i zero k h = absurd (not-suc-le-zero h)
 listed-at f i (suc n) zero h = rw (add-zero i)
 listed-at f i (suc n) (suc k) h = listed-at f (suc i) n k (le-of-suc-le-suc h) ∙ rw (suc-add i k, add-suc i k)
 
--- the table is that list: the checker computes both
-pub ascii-entry : (c : ℕ) → c < 128 → getD (listed asciiKind 0 128) c 0 ≡ asciiKind c
+pub ascii-entry : (c : ℕ) → c < 128 → getD asciiKinds c 0 ≡ asciiKind c
+unfolding asciiKinds
 ascii-entry c h = listed-at asciiKind 0 128 c h ∙ rw (zero-add c)
 
 -- a test of the number says what a class says
@@ -76,3 +72,11 @@ ascii-mark c h = same false (isMark c) (below (λ k. Bool·beq false (isMark k))
 pub ascii-word : (c r : ℕ) → r ≡ asciiKind c → c < 128 → leb 2 r ≡ isWordCharacter c
 unfolding asciiKind isWhitespace isAlphabetic isNumeric isMark isPunctuationConnector isAlphanumeric isWordCharacter inRanges within whiteSpace alphabetic numeric mark connector
 ascii-word = agree (λ k. leb 2 k) isWordCharacter refl
+
+pub kind-is : (kinds : List ℕ) (b : ℕ) → kinds ≡ asciiKinds → b < 128 → getD kinds b 0 ≡ asciiKind b
+kind-is kinds b e h = rw e (ascii-entry b h)
+
+pub ascii-name : (b kind : ℕ) → kind ≡ asciiKind b → b < 128
+    → (eqb kind 2 || (eqb kind 3 || (eqb b 0x2E || (eqb b 0x5F || eqb b 0x24)))) ≡ isPlaceholderNameCharacter b
+unfolding isPlaceholderNameCharacter isAlphanumeric
+ascii-name b kind e h = rw (ascii-alphabetic b kind e h, ascii-numeric b kind e h) (sym (or-assoc (isAlphabetic b) (isNumeric b) (eqb b 0x2E || (eqb b 0x5F || eqb b 0x24))))

@@ -9,3 +9,4 @@ pub mod AsciiTable
 pub mod Decoding
 pub mod Either
 pub mod Characters
+pub mod RunLaws

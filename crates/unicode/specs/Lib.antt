@@ -10,3 +10,4 @@ pub mod Ascii
 pub mod Utf8
 pub mod Character
 pub mod Blocks
+pub mod Runs

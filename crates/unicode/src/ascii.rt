@@ -1,7 +1,6 @@
 // The classes of the 128 ASCII characters. Made by tools/tables.rs.
 ghost use mathlib.Core.Path.{_≡_};
-ghost use Prim.Native.Nat.{_<_};
-ghost use Rattle.unicode.specs.Ascii.{asciiKind};
+ghost use Rattle.unicode.specs.Ascii.{asciiKinds};
 
 pub const WHITE_SPACE: u8 = 1;
 
@@ -142,10 +141,9 @@ const KINDS: [u8; 128] = [
     0,
 ];
 
-// The number of the class that c has, 0 where it has none.
-pub fn kind(c: u32) -> u8
-    requires { ⌜ c < 128 ⌝ }
-    ensures { λ r. ⌜ r ≡ asciiKind c ⌝ }
+// The table, for a loop to evaluate once.
+pub fn kinds() -> [u8; 128]
+    ensures { λ r. ⌜ r ≡ asciiKinds ⌝ }
 {
-    KINDS[c as usize]
+    KINDS
 }

@@ -6,13 +6,24 @@ use crate::mark;
 use crate::numeric;
 use crate::white_space;
 ghost use mathlib.Core.Path.{_≡_};
+ghost use Prim.Native.Nat.{_<_};
+ghost use Rattle.unicode.specs.Ascii.{asciiKind};
 ghost use Rattle.unicode.specs.Classes.{isWhitespace, isAlphabetic, isNumeric, isMark, isPunctuationConnector, isAlphanumeric, isWordCharacter, isPlaceholderNameCharacter};
+
+// The number of the class that an ASCII character has, 0 where it has none.
+fn ascii_kind(c: u32) -> u8
+    requires { ⌜ c < 128 ⌝ }
+    ensures { λ r. ⌜ r ≡ asciiKind c ⌝ }
+{
+    let kinds = ascii::kinds();
+    kinds[c as usize]
+}
 
 pub fn is_whitespace(c: u32) -> bool
     ensures { λ r. ⌜ r ≡ isWhitespace c ⌝ }
 {
     if c < 128 {
-        return ascii::kind(c) == ascii::WHITE_SPACE;
+        return ascii_kind(c) == ascii::WHITE_SPACE;
     }
     white_space::contains(c)
 }
@@ -21,7 +32,7 @@ pub fn is_alphabetic(c: u32) -> bool
     ensures { λ r. ⌜ r ≡ isAlphabetic c ⌝ }
 {
     if c < 128 {
-        return ascii::kind(c) == ascii::ALPHABETIC;
+        return ascii_kind(c) == ascii::ALPHABETIC;
     }
     alphabetic::contains(c)
 }
@@ -30,7 +41,7 @@ pub fn is_numeric(c: u32) -> bool
     ensures { λ r. ⌜ r ≡ isNumeric c ⌝ }
 {
     if c < 128 {
-        return ascii::kind(c) == ascii::NUMERIC;
+        return ascii_kind(c) == ascii::NUMERIC;
     }
     numeric::contains(c)
 }
@@ -49,7 +60,7 @@ pub fn is_punctuation_connector(c: u32) -> bool
     ensures { λ r. ⌜ r ≡ isPunctuationConnector c ⌝ }
 {
     if c < 128 {
-        return ascii::kind(c) == ascii::CONNECTOR;
+        return ascii_kind(c) == ascii::CONNECTOR;
     }
     connector::contains(c)
 }
@@ -65,7 +76,7 @@ pub fn is_word_character(c: u32) -> bool
     ensures { λ r. ⌜ r ≡ isWordCharacter c ⌝ }
 {
     if c < 128 {
-        return ascii::ALPHABETIC <= ascii::kind(c);
+        return ascii::ALPHABETIC <= ascii_kind(c);
     }
     is_alphanumeric(c) || (is_mark(c) || is_punctuation_connector(c))
 }

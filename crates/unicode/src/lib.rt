@@ -8,6 +8,7 @@ mod decode;
 mod mark;
 mod numeric;
 mod ranges;
+mod runs;
 mod utf8;
 mod white_space;
 
@@ -20,6 +21,7 @@ pub use classes::is_punctuation_connector;
 pub use classes::is_whitespace;
 pub use classes::is_word_character;
 pub use decode::character_at;
+pub use runs::run_of;
 pub use utf8::first_ill_formed;
 
 // Where a text's first ill-formed sequence starts.
@@ -32,4 +34,11 @@ pub enum IllFormed {
 pub struct Character {
     pub code_point: u32,
     pub len: usize,
+}
+
+// The classes of which 000 takes runs.
+pub enum Class {
+    Whitespace,
+    Word,
+    PlaceholderName,
 }

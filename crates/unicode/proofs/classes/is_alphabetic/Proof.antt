@@ -4,8 +4,8 @@ use Rattle.unicode.proofs.AsciiTable.{ascii-alphabetic}
 use Rattle.unicode.proofs.classes.is_alphabetic.Statement.{statement}
 use Rattle.unicode.proofs.classes.is_alphabetic.Tie as tie
 
-kind-requires : tie.Need-kind-requires
-kind-requires c κs = search needs
+ascii-kind-requires : tie.Need-ascii-kind-requires
+ascii-kind-requires c κs = search needs
 
 returns : tie.Need-returns
 returns c = search ascii-alphabetic
@@ -18,4 +18,4 @@ unfolding isAlphabetic
 returns-2 c = c .contains .ensures
 
 pub is-alphabetic-spec : {M : Type 1} → statement M
-is-alphabetic-spec = tie.close (tie.spec kind-requires returns contains-requires returns-2)
+is-alphabetic-spec = tie.close (tie.spec ascii-kind-requires returns contains-requires returns-2)

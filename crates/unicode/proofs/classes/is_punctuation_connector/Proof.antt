@@ -4,8 +4,8 @@ use Rattle.unicode.proofs.AsciiTable.{ascii-connector}
 use Rattle.unicode.proofs.classes.is_punctuation_connector.Statement.{statement}
 use Rattle.unicode.proofs.classes.is_punctuation_connector.Tie as tie
 
-kind-requires : tie.Need-kind-requires
-kind-requires c κs = search needs
+ascii-kind-requires : tie.Need-ascii-kind-requires
+ascii-kind-requires c κs = search needs
 
 returns : tie.Need-returns
 returns c = search ascii-connector
@@ -19,4 +19,4 @@ returns-2 c = c .contains .ensures
 
 pub is-punctuation-connector-spec : {M : Type 1} → statement M
 is-punctuation-connector-spec =
-    tie.close (tie.spec kind-requires returns contains-requires returns-2)
+    tie.close (tie.spec ascii-kind-requires returns contains-requires returns-2)

@@ -4,8 +4,8 @@ use Rattle.unicode.proofs.AsciiTable.{ascii-whitespace}
 use Rattle.unicode.proofs.classes.is_whitespace.Statement.{statement}
 use Rattle.unicode.proofs.classes.is_whitespace.Tie as tie
 
-kind-requires : tie.Need-kind-requires
-kind-requires c κs = search needs
+ascii-kind-requires : tie.Need-ascii-kind-requires
+ascii-kind-requires c κs = search needs
 
 returns : tie.Need-returns
 returns c = search ascii-whitespace
@@ -18,4 +18,4 @@ unfolding isWhitespace
 returns-2 c = c .contains .ensures
 
 pub is-whitespace-spec : {M : Type 1} → statement M
-is-whitespace-spec = tie.close (tie.spec kind-requires returns contains-requires returns-2)
+is-whitespace-spec = tie.close (tie.spec ascii-kind-requires returns contains-requires returns-2)

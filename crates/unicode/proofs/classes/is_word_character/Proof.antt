@@ -5,8 +5,8 @@ use Rattle.unicode.proofs.AsciiTable.{ascii-word}
 use Rattle.unicode.proofs.classes.is_word_character.Statement.{statement}
 use Rattle.unicode.proofs.classes.is_word_character.Tie as tie
 
-kind-requires : tie.Need-kind-requires
-kind-requires c κs = search needs
+ascii-kind-requires : tie.Need-ascii-kind-requires
+ascii-kind-requires c κs = search needs
 
 returns : tie.Need-returns
 returns c = search ascii-word
@@ -36,7 +36,7 @@ pub is-word-character-spec : {M : Type 1} → statement M
 is-word-character-spec =
     tie.close
     (tie.spec
-    kind-requires
+    ascii-kind-requires
     returns
     is-alphanumeric-requires
     is-mark-requires
