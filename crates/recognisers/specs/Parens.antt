@@ -1,0 +1,30 @@
+-- `get_open_paren_token` and `get_close_paren_token`.
+use Prim.Native.Nat.{ℕ}
+use mathlib.Core.List.{List}
+use Rattle.recognisers.specs.declared.Dialect.{Dialect}
+use Rattle.recognisers.specs.declared.Dialect.the-variants.{Generic, PostgreSql, SQLServer}
+use Rattle.recognisers.specs.declared.Taken.{Taken}
+use Rattle.recognisers.specs.declared.Taken.the-variants.{Bytes, Fails}
+use Rattle.recognisers.specs.declared.TokenKind.the-variants.{OpenParen, CloseParen}
+use Rattle.recognisers.specs.declared.Recognised.{Recognised}
+use Rattle.recognisers.specs.Text.{bytes}
+use Rattle.recognisers.specs.Taking.{Part, or, done, literal, caseless, blanks, endOfWord}
+use Rattle.recognisers.specs.Pieces.{tokenOf}
+
+abbrev pub inPostgreSql : Dialect → Part → Part
+inPostgreSql Generic part s = Fails
+inPostgreSql PostgreSql part s = part s
+inPostgreSql SQLServer part s = Fails
+
+unfoldable pub getOpenParenToken : Dialect → List ℕ → Recognised
+getOpenParenToken dialect s =
+    tokenOf OpenParen
+    (or (literal (bytes "(") done s)
+    (or (inPostgreSql dialect (literal (bytes "[") done) s) (caseless (bytes "CASE") endOfWord s)))
+
+unfoldable pub getCloseParenToken : Dialect → List ℕ → Recognised
+getCloseParenToken dialect s =
+    tokenOf CloseParen
+    (or (literal (bytes ")") done s)
+    (or (inPostgreSql dialect (literal (bytes "]") done) s)
+    (or (caseless (bytes "END") (blanks (caseless (bytes "CASE") endOfWord)) s) (caseless (bytes "END") endOfWord s))))

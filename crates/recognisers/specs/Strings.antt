@@ -1,0 +1,62 @@
+-- `take_till_escaping`, `get_string_token` and `get_placeholder_string_token`.
+use Prim.Native.Nat.{ℕ}
+use mathlib.Core.Bool.{Bool, true, false, cond, not, _&&_, _||_}
+use mathlib.Core.List.{List, [], _∷_}
+use lib.Dec.{eqb}
+use Rattle.recognisers.specs.declared.Dialect.{Dialect}
+use Rattle.recognisers.specs.declared.Dialect.the-variants.{Generic, PostgreSql, SQLServer}
+use Rattle.recognisers.specs.declared.Taken.{Taken}
+use Rattle.recognisers.specs.declared.Taken.the-variants.{Bytes, Fails}
+use Rattle.recognisers.specs.declared.TokenKind.the-variants.{String}
+use Rattle.recognisers.specs.declared.Recognised.{Recognised}
+use Rattle.recognisers.specs.Text.{byte, bytes}
+use Rattle.recognisers.specs.Taking.{Part, more, or, literal, startsWith}
+use Rattle.recognisers.specs.Pieces.{tokenOf}
+
+-- the byte is among them
+unfoldable pub contains : List ℕ → ℕ → Bool
+contains [] b = false
+contains (e ∷ escapes) b = eqb b e || contains escapes b
+
+-- How many bytes stand before the first `desired` byte that is neither escaped nor an escape; it fails where there is none.
+-- (The Rust then takes the rest, and the `any` behind it fails.) An escape and the `desired` byte behind it are passed
+-- together: `behind` says that the next byte is such a one.
+unfoldable pub takeTillEscaping : ℕ → List ℕ → Bool → Part
+takeTillEscaping desired escapes behind [] = Fails
+takeTillEscaping desired escapes true (b ∷ s) = more 1 (takeTillEscaping desired escapes false s)
+takeTillEscaping desired escapes false (b ∷ s) =
+    cond (not (contains escapes b && startsWith desired s) && eqb b desired) (Bytes 0)
+    (more 1 (takeTillEscaping desired escapes (contains escapes b && startsWith desired s) s))
+
+-- the text up to its closing quote, and that
+abbrev pub closedBy : ℕ → List ℕ → Part
+closedBy desired escapes s = more 1 (takeTillEscaping desired escapes false s)
+
+abbrev pub inSQLServer : Dialect → Part → Part
+inSQLServer Generic part s = Fails
+inSQLServer PostgreSql part s = Fails
+inSQLServer SQLServer part s = part s
+
+-- the eight openers
+unfoldable pub stringPart : Dialect → Part
+stringPart dialect s =
+    or (literal (bytes "`") (closedBy (byte "`") (bytes "`")) s)
+    (or (inSQLServer dialect (literal (bytes "[") (closedBy (byte "]") (bytes "]"))) s)
+    (or (literal (bytes "\"") (closedBy (byte "\"") (bytes "\"\\")) s)
+    (or (literal (bytes "'") (closedBy (byte "'") (bytes "'\\")) s)
+    (or (literal (bytes "N'") (closedBy (byte "'") (bytes "'\\")) s)
+    (or (literal (bytes "E'") (closedBy (byte "'") (bytes "'\\")) s)
+    (or (literal (bytes "x'") (closedBy (byte "'") []) s)
+    (literal (bytes "X'") (closedBy (byte "'") []) s)))))))
+
+unfoldable pub getStringToken : Dialect → List ℕ → Recognised
+getStringToken dialect s = tokenOf String (stringPart dialect s)
+
+-- like the above, with other escapes
+unfoldable pub placeholderStringPart : Dialect → Part
+placeholderStringPart dialect s =
+    or (literal (bytes "`") (closedBy (byte "`") (bytes "`")) s)
+    (or (inSQLServer dialect (literal (bytes "[") (closedBy (byte "]") (bytes "]"))) s)
+    (or (literal (bytes "\"") (closedBy (byte "\"") (bytes "\\")) s)
+    (or (literal (bytes "'") (closedBy (byte "'") (bytes "\\")) s)
+    (literal (bytes "N'") (closedBy (byte "'") (bytes "\\")) s))))

@@ -1,0 +1,78 @@
+-- What the recognisers are made of. Each part says how many bytes it takes from the start of the rest, or fails; `then` is
+-- the part that follows it.
+use Prim.Native.Nat.{ℕ, zero, suc, _+_, _-_}
+use mathlib.Core.Bool.{Bool, true, false, cond, not, _&&_, _||_}
+use mathlib.Core.List.{List, [], _∷_}
+use lib.ListN.{length, drop}
+use lib.Dec.{leb, eqb}
+use Rattle.recognisers.specs.declared.Taken.{Taken}
+use Rattle.recognisers.specs.declared.Taken.the-variants.{Bytes, Fails}
+use Rattle.unicode.specs.Ranges.{within}
+use Rattle.unicode.specs.Classes.{isWhitespace, isWordCharacter}
+use Rattle.unicode.specs.Character.{codePoint}
+use Rattle.unicode.specs.Runs.{run}
+
+abbrev pub Part : Type 0
+Part = List ℕ → Taken
+
+-- n bytes more
+abbrev pub more : ℕ → Taken → Taken
+more n (Bytes m) = Bytes (n + m)
+more n Fails = Fails
+
+-- the first that does not fail
+abbrev pub or : Taken → Taken → Taken
+or (Bytes n) other = Bytes n
+or Fails other = other
+
+-- nothing more
+abbrev pub done : Part
+done s = Bytes 0
+
+-- one byte that passes the test
+unfoldable pub one : (ℕ → Bool) → Part → Part
+one test then [] = Fails
+one test then (b ∷ s) = cond (test b) (more 1 (then s)) Fails
+
+-- these bytes
+unfoldable pub literal : List ℕ → Part → Part
+literal [] then s = then s
+literal (w ∷ word) then s = one (λ b. eqb b w) (literal word then) s
+
+-- an ASCII letter as its capital
+unfoldable pub capital : ℕ → ℕ
+capital b = cond (within 0x61 0x7A b) (b - 0x20) b
+
+-- these capitals, in either case
+unfoldable pub caseless : List ℕ → Part → Part
+caseless [] then s = then s
+caseless (w ∷ word) then s = one (λ b. eqb (capital b) w) (caseless word then) s
+
+-- at least one whitespace character, and all that follow
+unfoldable pub blanks : Part → Part
+blanks then s = cond (isWhitespace (codePoint s)) (more (run isWhitespace 0 s) (then (drop (run isWhitespace 0 s) s))) Fails
+
+-- no word character comes next: the end of the text has code point 0, which is none
+unfoldable pub endOfWord : Part
+endOfWord s = cond (isWordCharacter (codePoint s)) Fails (Bytes 0)
+
+abbrev pub isDigit : ℕ → Bool
+isDigit b = within 0x30 0x39 b
+
+-- how many of the bytes at the start pass the test
+unfoldable pub count : (ℕ → Bool) → List ℕ → ℕ
+count test [] = 0
+count test (b ∷ s) = cond (test b) (suc (count test s)) 0
+
+-- ASCII digits, one at least, and all that follow
+unfoldable pub digit1 : Part → Part
+digit1 then s = cond (leb 1 (count isDigit s)) (more (count isDigit s) (then (drop (count isDigit s) s))) Fails
+
+-- ASCII digits, or none
+unfoldable pub digit0 : Part → Part
+digit0 then s = more (count isDigit s) (then (drop (count isDigit s) s))
+
+-- the byte stands at the start
+abbrev pub startsWith : ℕ → List ℕ → Bool
+startsWith b [] = false
+startsWith b (c ∷ s) = eqb c b

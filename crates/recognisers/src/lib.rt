@@ -1,0 +1,59 @@
+// The recognisers of src/tokenizer.rs that look at the text alone, each under its Rust name. A recogniser gets the rest of the
+// statement from the present token on.
+
+// The SQL dialect, as in src/lib.rs.
+pub enum Dialect {
+    Generic,
+    PostgreSql,
+    SQLServer,
+}
+
+pub enum TokenKind {
+    TypeSpecifier,
+    Whitespace,
+    String,
+    Reserved,
+    ReservedTopLevel,
+    ReservedTopLevelNoIndent,
+    ReservedNewline,
+    ReservedNewlineAfter,
+    Operator,
+    OpenParen,
+    CloseParen,
+    LineComment,
+    BlockComment,
+    Number,
+    Placeholder,
+    Word,
+    Join,
+}
+
+// What a placeholder asks for: nothing, a name that stands in the text, such a name with escapes to undo, or a place that
+// counts from 0 or from 1.
+pub enum Key {
+    None,
+    Named { start: usize, len: usize },
+    Escaped { start: usize, len: usize },
+    ZeroIndexed(u64),
+    OneIndexed(u64),
+}
+
+// A token at the start of a rest: the alias is the value's first part, and a key's start counts from there.
+pub struct Piece {
+    pub kind: TokenKind,
+    pub len: usize,
+    pub alias: usize,
+    pub key: Key,
+}
+
+// What a recogniser answers: the Rust's `Result<Token>`.
+pub enum Recognised {
+    Token(Piece),
+    Nothing,
+}
+
+// How many bytes of a rest a part of a recogniser takes.
+pub enum Taken {
+    Bytes(usize),
+    Fails,
+}

@@ -1,0 +1,9 @@
+-- The reserved phrases of src/tokenizer.rs and the tokens that they make.
+pub mod Phrases
+pub mod TopLevel
+pub mod NewlineAfter
+pub mod Newline
+pub mod Join
+pub mod NoIndent
+pub mod Plain
+pub mod Reserved

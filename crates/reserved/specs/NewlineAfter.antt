@@ -1,0 +1,11 @@
+-- The phrase of `get_newline_after_reserved_token`.
+use Prim.Native.Nat.{ℕ}
+use mathlib.Core.List.{List, [], _∷_}
+use Rattle.recognisers.specs.Text.{bytes}
+use Rattle.reserved.specs.Phrases.{Phrase, phrase}
+
+-- there is one
+unfoldable pub newlineAfterPhrases : List Phrase
+newlineAfterPhrases =
+    phrase (bytes "DO UPDATE SET")
+    ∷ []

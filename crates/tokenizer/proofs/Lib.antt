@@ -1,0 +1,2 @@
+-- Laws that the proofs cite, and theorems on the definitions.
+pub mod Worked

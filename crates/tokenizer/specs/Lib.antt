@@ -1,0 +1,4 @@
+-- The reading of a statement: src/tokenizer.rs over its recognisers.
+pub mod Memory
+pub mod NextToken
+pub mod Tokens

@@ -1,0 +1,51 @@
+// src/tokenizer.rs: the tokens of a statement, one step at a time and as a table of records.
+use recognisers::Dialect;
+use recognisers::Key;
+use recognisers::TokenKind;
+use reserved::TopLevel;
+
+// What is asked of earlier tokens: may a type specifier stand here, is the last non-whitespace token's value `.`, is the last
+// Reserved token's value BETWEEN, and the last top-level token's alias.
+pub struct Memory {
+    pub type_specifier: bool,
+    pub after_dot: bool,
+    pub after_between: bool,
+    pub top_level: TopLevel,
+}
+
+pub struct Settings {
+    pub dialect: Dialect,
+    pub joins: bool,
+    pub named: bool,
+}
+
+// A token of a statement: start, length and alias length in bytes, and a key whose places count from the statement's start.
+pub struct Token {
+    pub kind: TokenKind,
+    pub start: usize,
+    pub len: usize,
+    pub alias: usize,
+    pub key: Key,
+}
+
+// Where reading stands, and what it remembers.
+pub struct Cursor {
+    pub at: usize,
+    pub memory: Memory,
+}
+
+pub enum Step {
+    Token(Token, Cursor),
+    Done,
+}
+
+// What a caller is told.
+pub enum Answer {
+    Done(u64),
+    Overlong(u64),
+    NotUtf8(u64),
+    Setting,
+    TableFull(u64),
+    Sheet,
+    OutputFull(u64),
+}
