@@ -216,7 +216,7 @@ WORKED = (
     # texts that document 02 names
     ("@N'a'", 0, 0, [(PLACEHOLDER, "@N"), (STRING, "'a'")]),
     ("''", 0, 0, [(STRING, "''")]),
-    ("'''", 0, 0, [(STRING, "''"), (OPERATOR, "'")]),
+    ("'''", 0, 0, [(OPERATOR, "'"), (STRING, "''")]),
 )
 
 # The key words that document 01 gives for a worked search's first token.

@@ -13,9 +13,8 @@ use Rattle.recognisers.specs.declared.TokenKind.the-variants.{Placeholde
 use Rattle.recognisers.specs.declared.Recognised.{Recognised}
 use Rattle.recognisers.specs.declared.Recognised.the-variants.{Token, Nothing}
 use Rattle.recognisers.specs.Text.{byte, bytes}
-use Rattle.recognisers.specs.Taking.{Part, more, or, done, one, literal, digit1, count, startsWith}
-use Rattle.recognisers.specs.Strings.{contains, placeholderStringPart}
-use Rattle.recognisers.specs.Words.{atLeast}
+use Rattle.recognisers.specs.Taking.{Part, more, or, done, one, literal, digit1, atLeast, contains, startsWith}
+use Rattle.recognisers.specs.Strings.{placeholderStringPart}
 use Rattle.recognisers.specs.Pieces.{piece, alt}
 use Rattle.unicode.specs.Classes.{isPlaceholderNameCharacter}
 use Rattle.unicode.specs.Runs.{run}

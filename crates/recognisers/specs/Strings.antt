@@ -10,13 +10,8 @@ use Rattle.recognisers.specs.declared.Taken.the-variants.{Bytes, Fails}
 use Rattle.recognisers.specs.declared.TokenKind.the-variants.{String}
 use Rattle.recognisers.specs.declared.Recognised.{Recognised}
 use Rattle.recognisers.specs.Text.{byte, bytes}
-use Rattle.recognisers.specs.Taking.{Part, more, or, literal, startsWith}
+use Rattle.recognisers.specs.Taking.{Part, more, or, literal, contains, startsWith}
 use Rattle.recognisers.specs.Pieces.{tokenOf}
-
--- the byte is among them
-unfoldable pub contains : List ℕ → ℕ → Bool
-contains [] b = false
-contains (e ∷ escapes) b = eqb b e || contains escapes b
 
 -- How many bytes stand before the first `desired` byte that is neither escaped nor an escape; it fails where there is none.
 -- (The Rust then takes the rest, and the `any` behind it fails.) An escape and the `desired` byte behind it are passed

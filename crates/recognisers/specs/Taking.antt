@@ -34,19 +34,31 @@ unfoldable pub one : (ℕ → Bool) → Part → Part
 one test then [] = Fails
 one test then (b ∷ s) = cond (test b) (more 1 (then s)) Fails
 
--- these bytes
-unfoldable pub literal : List ℕ → Part → Part
-literal [] then s = then s
-literal (w ∷ word) then s = one (λ b. eqb b w) (literal word then) s
+-- these bytes, in a form of the text's
+unfoldable pub spelled : (ℕ → ℕ) → List ℕ → Part → Part
+spelled form [] then s = then s
+spelled form (w ∷ word) then s = one (λ b. eqb (form b) w) (spelled form word then) s
+
+-- a word stands at the start so
+unfoldable pub isSpelled : (ℕ → ℕ) → List ℕ → List ℕ → Bool
+isSpelled form [] s = true
+isSpelled form (w ∷ word) [] = false
+isSpelled form (w ∷ word) (b ∷ s) = eqb (form b) w && isSpelled form word s
+
+unfoldable pub typed : ℕ → ℕ
+typed b = b
 
 -- an ASCII letter as its capital
 unfoldable pub capital : ℕ → ℕ
 capital b = cond (within 0x61 0x7A b) (b - 0x20) b
 
+-- these bytes as typed
+abbrev pub literal : List ℕ → Part → Part
+literal word then s = spelled typed word then s
+
 -- these capitals, in either case
-unfoldable pub caseless : List ℕ → Part → Part
-caseless [] then s = then s
-caseless (w ∷ word) then s = one (λ b. eqb (capital b) w) (caseless word then) s
+abbrev pub caseless : List ℕ → Part → Part
+caseless word then s = spelled capital word then s
 
 -- at least one whitespace character, and all that follow
 unfoldable pub blanks : Part → Part
@@ -72,7 +84,21 @@ digit1 then s = cond (leb 1 (count isDigit s)) (more (count isDigit s) (then (dr
 unfoldable pub digit0 : Part → Part
 digit0 then s = more (count isDigit s) (then (drop (count isDigit s) s))
 
+-- so many bytes, where there are that many at least
+abbrev pub atLeast : ℕ → ℕ → Taken
+atLeast least n = cond (leb least n) (Bytes n) Fails
+
+-- how many bytes were taken
+abbrev pub taken : Taken → ℕ
+taken (Bytes n) = n
+taken Fails = 0
+
+-- the byte is among them
+unfoldable pub contains : List ℕ → ℕ → Bool
+contains [] b = false
+contains (e ∷ bytes) b = eqb b e || contains bytes b
+
 -- the byte stands at the start
-abbrev pub startsWith : ℕ → List ℕ → Bool
+unfoldable pub startsWith : ℕ → List ℕ → Bool
 startsWith b [] = false
 startsWith b (c ∷ s) = eqb c b

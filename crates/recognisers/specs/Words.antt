@@ -8,16 +8,11 @@ use Rattle.recognisers.specs.declared.Taken.the-variants.{Bytes, Fails}
 use Rattle.recognisers.specs.declared.TokenKind.the-variants.{Whitespace, Operator, Word}
 use Rattle.recognisers.specs.declared.Recognised.{Recognised}
 use Rattle.recognisers.specs.Text.{byte, bytes}
-use Rattle.recognisers.specs.Taking.{Part, count, startsWith}
-use Rattle.recognisers.specs.Strings.{contains}
+use Rattle.recognisers.specs.Taking.{count, atLeast, contains, startsWith}
 use Rattle.recognisers.specs.Pieces.{tokenOf}
 use Rattle.unicode.specs.Classes.{isWhitespace, isWordCharacter}
 use Rattle.unicode.specs.Character.{codePoint, characterLength}
 use Rattle.unicode.specs.Runs.{run}
-
--- so many bytes, where there are that many at least
-abbrev pub atLeast : ℕ → ℕ → Taken
-atLeast least n = cond (leb least n) (Bytes n) Fails
 
 unfoldable pub getWhitespaceToken : List ℕ → Recognised
 getWhitespaceToken s = tokenOf Whitespace (atLeast 1 (run isWhitespace 0 s))

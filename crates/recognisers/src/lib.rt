@@ -1,5 +1,7 @@
 // The recognisers of src/tokenizer.rs that look at the text alone, each under its Rust name. A recogniser gets the rest of the
 // statement from the present token on.
+mod comment;
+mod scan;
 
 // The SQL dialect, as in src/lib.rs.
 pub enum Dialect {

@@ -12,7 +12,7 @@ use Rattle.recognisers.specs.declared.TokenKind.the-variants.{Reserved, Reserve
 use Rattle.recognisers.specs.declared.Recognised.{Recognised}
 use Rattle.recognisers.specs.declared.Recognised.the-variants.{Token, Nothing}
 use Rattle.recognisers.specs.Text.{byte, bytes}
-use Rattle.recognisers.specs.Taking.{capital, startsWith}
+use Rattle.recognisers.specs.Taking.{typed, isSpelled, capital, startsWith}
 use Rattle.recognisers.specs.Pieces.{piece, tokenOf, alt}
 use Rattle.unicode.specs.Ranges.{within}
 use Rattle.reserved.specs.declared.TopLevel.{TopLevel}
@@ -31,12 +31,6 @@ same [] [] = true
 same [] (c ∷ t) = false
 same (b ∷ s) [] = false
 same (b ∷ s) (c ∷ t) = eqb b c && same s t
-
--- `starts_with`
-unfoldable pub isPrefix : List ℕ → List ℕ → Bool
-isPrefix [] s = true
-isPrefix (w ∷ word) [] = false
-isPrefix (w ∷ word) (b ∷ s) = eqb b w && isPrefix word s
 
 abbrev pub isSelect : TopLevel → Bool
 isSelect Select = true
@@ -68,7 +62,7 @@ topLevelKind last value =
 
 -- CREATE and SELECT stand for all phrases that begin so
 unfoldable pub aliasLength : List ℕ → ℕ
-aliasLength value = cond (isPrefix (bytes "CREATE") value || isPrefix (bytes "SELECT") value) 6 (length value)
+aliasLength value = cond (isSpelled typed (bytes "CREATE") value || isSpelled typed (bytes "SELECT") value) 6 (length value)
 
 abbrev pub topLevelToken : TopLevel → List ℕ → Taken → Recognised
 topLevelToken last s (Bytes n) =

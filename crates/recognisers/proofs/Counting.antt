@@ -1,0 +1,90 @@
+-- Loops over the bytes at the start of a rest.
+-- Assumes nothing.
+use Prim.Native.Nat.{ℕ, zero, suc, _+_, _≤_, _<_, zero-le, suc-le-suc}
+use native.Mathlib.Nat.{add-zero, zero-add, add-suc, suc-add}
+use native.Mathlib.Numerals.{add-one}
+use native.Mathlib.Omega.{arith}
+use mathlib.Core.Path.{_≡_, refl, sym, ap, _∙_}
+use mathlib.Core.List.{List, [], _∷_}
+use mathlib.Core.Bool.{Bool, true, false, cond, _||_}
+use lib.ListN.{length, drop, getD, drop-of-length-le}
+use lib.Seq.{drop-cons}
+use lib.Dec.{eqb}
+use borrow.Author.Tests.{eq-eqb, ne-eqb}
+use Rattle.recognisers.specs.Taking.{count, contains, startsWith}
+
+-- ---- how many pass a test
+
+pub count-inside : (test : ℕ → Bool) (s : List ℕ) → count test s ≤ length s
+unfolding count
+count-inside test [] = zero-le
+count-inside test (b ∷ s) = go (test b) (count-inside test s)
+  where
+    go : (t : Bool) → count test s ≤ length s → cond t (suc (count test s)) 0 ≤ suc (length s)
+    go true h = suc-le-suc h
+    go false h = zero-le
+
+module _ (test : ℕ → Bool) where
+  -- the loop stands at i
+  pub record CountAt (s : List ℕ) (i : ℕ) : Type 0 where
+    pub inside : i ≤ length s
+    pub same : count test s ≡ i + count test (drop i s)
+
+  module _ (s : List ℕ) where
+    pub count-start : CountAt s 0
+    count-start = record { inside = zero-le; same = sym (zero-add (count test s)) }
+
+    module _ (i : ℕ) (r : Bool) (at : CountAt s i) (h : i < length s) (c : r ≡ test (getD s i 0)) where
+      pub count-more : r ≡ true → CountAt s (i + 1)
+      unfolding count
+      count-more t =
+          record {
+            inside = omega arith;
+            same = at .same ∙ rw (drop-cons s i 0 h, ← c, t, add-one) (add-suc i (count test (drop (suc i) s)) ∙ sym (suc-add i (count test (drop (suc i) s))));
+          }
+
+      pub count-stop : r ≡ false → i ≡ count test s
+      unfolding count
+      count-stop t = sym (at .same ∙ rw (drop-cons s i 0 h, ← c, t) (add-zero i))
+
+    pub count-end : (i : ℕ) → CountAt s i → length s ≤ i → i ≡ count test s
+    unfolding count
+    count-end i at h = sym (at .same ∙ rw (drop-of-length-le s h) (add-zero i))
+
+-- ---- a byte among some
+
+module _ (s : List ℕ) (b : ℕ) where
+  pub record AmongAt (i : ℕ) : Type 0 where
+    pub inside : i ≤ length s
+    pub same : contains (drop i s) b ≡ contains s b
+
+  pub among-start : AmongAt 0
+  among-start = record { inside = zero-le; same = refl }
+
+  module _ (i : ℕ) (at : AmongAt i) where
+    pub among-here : i < length s → b ≡ getD s i 0 → true ≡ contains s b
+    unfolding contains
+    among-here h e = rw (drop-cons s i 0 h, eq-eqb b (getD s i 0) e) at (at .same)
+
+    pub among-next : i < length s → (b ≡ getD s i 0 → ⊥) → AmongAt (i + 1)
+    unfolding contains
+    among-next h e =
+        record {
+          inside = omega arith;
+          same = rw (add-one i) (rw (drop-cons s i 0 h, ne-eqb b (getD s i 0) e) at (at .same));
+        }
+
+    pub among-none : length s ≤ i → false ≡ contains s b
+    unfolding contains
+    among-none h = rw (drop-of-length-le s h) at (at .same)
+
+-- ---- the byte at i
+
+module _ (s : List ℕ) (i b : ℕ) where
+  pub stands : i < length s → eqb (getD s i 0) b ≡ startsWith b (drop i s)
+  unfolding startsWith
+  stands h = sym (rw (drop-cons s i 0 h))
+
+  pub stands-not : length s ≤ i → false ≡ startsWith b (drop i s)
+  unfolding startsWith
+  stands-not h = sym (rw (drop-of-length-le s h))

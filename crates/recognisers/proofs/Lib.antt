@@ -1,0 +1,6 @@
+-- Laws that the proofs cite.
+pub mod Counting
+pub mod Spelling
+pub mod Inside
+pub mod Cases
+pub mod Comments

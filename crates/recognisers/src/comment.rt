@@ -1,0 +1,78 @@
+// `get_comment_token`.
+use crate::Recognised;
+use crate::Taken;
+use crate::TokenKind;
+use crate::scan::first_recognised;
+use crate::scan::n_more;
+use crate::scan::pair_stands_at;
+use crate::scan::stands_at;
+use crate::scan::starts_with;
+use crate::scan::token_of;
+ghost use mathlib.Core.Path.{_≡_};
+ghost use lib.ListN.{length};
+ghost use Rattle.recognisers.specs.Taking.{literal};
+ghost use Rattle.recognisers.specs.Comment.{tillLineEnding, throughBlockEnd, getCommentToken};
+
+// Up to LF, CR LF or the end; a CR without LF is refused.
+fn till_line_ending(rest: &[u8]) -> Taken
+    ensures { λ r. ⌜ r ≡ tillLineEnding (now (rest .entry)) ⌝ }
+{
+    let mut i = 0;
+    while i < rest.len() {
+        let b = rest[i];
+        if b == b'\n' {
+            return Taken::Bytes(i);
+        }
+        if b == b'\r' {
+            if stands_at(rest, i + 1, b'\n') {
+                return Taken::Bytes(i);
+            }
+            return Taken::Fails;
+        }
+        i += 1;
+    }
+    Taken::Bytes(i)
+}
+
+// Through the first `*/`, else to the end.
+fn through_block_end(rest: &[u8]) -> Taken
+    ensures { λ r. ⌜ r ≡ throughBlockEnd (now (rest .entry)) ⌝ }
+{
+    let mut i = 0;
+    while i < rest.len() {
+        if pair_stands_at(rest, i, b'*', b'/') {
+            return Taken::Bytes(i + 2);
+        }
+        i += 1;
+    }
+    Taken::Bytes(i)
+}
+
+fn line_comment(rest: &[u8], mark: &[u8]) -> Taken
+    ensures { λ r. ⌜ r ≡ literal (now (mark .entry)) tillLineEnding (now (rest .entry)) ⌝ }
+{
+    if starts_with(rest, mark) {
+        let n = mark.len();
+        return n_more(n, till_line_ending(&rest[n..]));
+    }
+    Taken::Fails
+}
+
+fn block_comment(rest: &[u8], mark: &[u8]) -> Taken
+    ensures { λ r. ⌜ r ≡ literal (now (mark .entry)) throughBlockEnd (now (rest .entry)) ⌝ }
+{
+    if starts_with(rest, mark) {
+        let n = mark.len();
+        return n_more(n, through_block_end(&rest[n..]));
+    }
+    Taken::Fails
+}
+
+pub fn get_comment_token(rest: &[u8]) -> Recognised
+    ensures { λ r. ⌜ r ≡ getCommentToken (now (rest .entry)) ⌝ }
+{
+    let hash = token_of(TokenKind::LineComment, line_comment(rest, b"#"));
+    let dashes = token_of(TokenKind::LineComment, line_comment(rest, b"--"));
+    let block = token_of(TokenKind::BlockComment, block_comment(rest, b"/*"));
+    first_recognised(hash, first_recognised(dashes, block))
+}
