@@ -61,3 +61,10 @@ alt-token a b p e = rw e
 
 pub alt-nothing : (a b : Recognised) → a ≡ Nothing → b ≡ alt a b
 alt-nothing a b e = rw e
+
+module _ {A : Type 0} (t : Bool) (x y r : A) where
+  pub cond-yes : t ≡ true → r ≡ x → r ≡ cond t x y
+  cond-yes e q = rw e q
+
+  pub cond-no : t ≡ false → r ≡ y → r ≡ cond t x y
+  cond-no e q = rw e q

@@ -23,7 +23,7 @@ more-at-most : (n : ℕ) (t : Taken) → taken (more n t) ≤ n + taken t
 more-at-most n (Bytes m) = le-refl (n + m)
 more-at-most n Fails = zero-le
 
-cond-inside : (b : Bool) (t : Taken) (k : ℕ) → taken t ≤ k → taken (cond b t Fails) ≤ k
+pub cond-inside : (b : Bool) (t : Taken) (k : ℕ) → taken t ≤ k → taken (cond b t Fails) ≤ k
 cond-inside true t k h = h
 cond-inside false t k h = zero-le
 
@@ -52,7 +52,7 @@ end-of-word-inside s = go (isWordCharacter (codePoint s))
     go true = zero-le
     go false = zero-le
 
-then-inside : (n : ℕ) (then : Part) (s : List ℕ) → n ≤ length s → Inside then → taken (more n (then (drop n s))) ≤ length s
+pub then-inside : (n : ℕ) (then : Part) (s : List ℕ) → n ≤ length s → Inside then → taken (more n (then (drop n s))) ≤ length s
 then-inside n then s l h =
     let m = more-at-most n (then (drop n s)) in
     let k = h (drop n s) in

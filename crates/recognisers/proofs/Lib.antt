@@ -4,3 +4,5 @@ pub mod Spelling
 pub mod Inside
 pub mod Cases
 pub mod Comments
+pub mod Quotes
+pub mod Blanks

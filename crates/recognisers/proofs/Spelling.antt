@@ -1,7 +1,7 @@
 -- A word at the start of a rest, in a form of the text's bytes: as typed, or in capitals.
 -- Assumes nothing.
 use Prim.Native.Nat.{ℕ, zero, suc, _+_, _-_, _≤_, _<_, zero-le, suc-le-suc}
-use native.Mathlib.Nat.{le-of-suc-le-suc, not-suc-le-zero, zero-add, suc-add, add-suc}
+use native.Mathlib.Nat.{le-of-suc-le-suc, not-suc-le-zero, add-zero, zero-add, suc-add, add-suc}
 use native.Mathlib.Numerals.{add-one, one-add}
 use native.Mathlib.Omega.{arith}
 use mathlib.Core.Path.{_≡_, refl, sym, ap, _∙_}
@@ -13,7 +13,7 @@ use lib.Dec.{eqb}
 use borrow.Author.Tests.{eq-eqb, ne-eqb}
 use Rattle.recognisers.specs.declared.Taken.{Taken}
 use Rattle.recognisers.specs.declared.Taken.the-variants.{Bytes, Fails}
-use Rattle.recognisers.specs.Taking.{Part, more, one, spelled, isSpelled, typed, capital}
+use Rattle.recognisers.specs.Taking.{Part, more, done, one, spelled, isSpelled, typed, capital}
 
 -- a part of a rest up to its end
 pub part-end : (s : List ℕ) (k : ℕ) → take (length s - k) (drop k s) ≡ drop k s
@@ -88,6 +88,9 @@ module _ (form : ℕ → ℕ) where
 
     pub word-then : (t q : Taken) → r ≡ true → t ≡ then (take (length s - length w) (drop (length w) s)) → q ≡ more (length w) t → q ≡ spelled form w then s
     word-then t q y f g = g ∙ rw (spelled-is w s then, ← e, y, f, part-end s (length w))
+
+    pub word-alone : r ≡ true → Bytes (length w) ≡ spelled form w done s
+    word-alone y = sym (spelled-is w s done ∙ rw (← e, y) (ap Bytes (add-zero (length w))))
 
     pub word-not : r ≡ false → Fails ≡ spelled form w then s
     word-not n = sym (spelled-is w s then ∙ rw (← e, n))

@@ -24,7 +24,7 @@ takeTillEscaping desired escapes false (b ∷ s) =
     (more 1 (takeTillEscaping desired escapes (contains escapes b && startsWith desired s) s))
 
 -- the text up to its closing quote, and that
-abbrev pub closedBy : ℕ → List ℕ → Part
+unfoldable pub closedBy : ℕ → List ℕ → Part
 closedBy desired escapes s = more 1 (takeTillEscaping desired escapes false s)
 
 abbrev pub inSQLServer : Dialect → Part → Part
@@ -32,26 +32,34 @@ inSQLServer Generic part s = Fails
 inSQLServer PostgreSql part s = Fails
 inSQLServer SQLServer part s = part s
 
+-- hexadecimal strings know no escapes
+unfoldable pub hexPart : Part
+hexPart s = or (literal (bytes "x'") (closedBy (byte "'") []) s) (literal (bytes "X'") (closedBy (byte "'") []) s)
+
+-- strings in double or single quotes, national ones, those with an E before them
+unfoldable pub quotedPart : Part
+quotedPart s =
+    or (literal (bytes "\"") (closedBy (byte "\"") (bytes "\"\\")) s)
+    (or (literal (bytes "'") (closedBy (byte "'") (bytes "'\\")) s)
+    (or (literal (bytes "N'") (closedBy (byte "'") (bytes "'\\")) s)
+    (or (literal (bytes "E'") (closedBy (byte "'") (bytes "'\\")) s) (hexPart s))))
+
 -- the eight openers
 unfoldable pub stringPart : Dialect → Part
 stringPart dialect s =
     or (literal (bytes "`") (closedBy (byte "`") (bytes "`")) s)
-    (or (inSQLServer dialect (literal (bytes "[") (closedBy (byte "]") (bytes "]"))) s)
-    (or (literal (bytes "\"") (closedBy (byte "\"") (bytes "\"\\")) s)
-    (or (literal (bytes "'") (closedBy (byte "'") (bytes "'\\")) s)
-    (or (literal (bytes "N'") (closedBy (byte "'") (bytes "'\\")) s)
-    (or (literal (bytes "E'") (closedBy (byte "'") (bytes "'\\")) s)
-    (or (literal (bytes "x'") (closedBy (byte "'") []) s)
-    (literal (bytes "X'") (closedBy (byte "'") []) s)))))))
+    (or (inSQLServer dialect (literal (bytes "[") (closedBy (byte "]") (bytes "]"))) s) (quotedPart s))
 
 unfoldable pub getStringToken : Dialect → List ℕ → Recognised
 getStringToken dialect s = tokenOf String (stringPart dialect s)
 
 -- like the above, with other escapes
+unfoldable pub placeholderQuotedPart : Part
+placeholderQuotedPart s =
+    or (literal (bytes "\"") (closedBy (byte "\"") (bytes "\\")) s)
+    (or (literal (bytes "'") (closedBy (byte "'") (bytes "\\")) s) (literal (bytes "N'") (closedBy (byte "'") (bytes "\\")) s))
+
 unfoldable pub placeholderStringPart : Dialect → Part
 placeholderStringPart dialect s =
     or (literal (bytes "`") (closedBy (byte "`") (bytes "`")) s)
-    (or (inSQLServer dialect (literal (bytes "[") (closedBy (byte "]") (bytes "]"))) s)
-    (or (literal (bytes "\"") (closedBy (byte "\"") (bytes "\\")) s)
-    (or (literal (bytes "'") (closedBy (byte "'") (bytes "\\")) s)
-    (literal (bytes "N'") (closedBy (byte "'") (bytes "\\")) s))))
+    (or (inSQLServer dialect (literal (bytes "[") (closedBy (byte "]") (bytes "]"))) s) (placeholderQuotedPart s))

@@ -54,11 +54,11 @@ capital b = cond (within 0x61 0x7A b) (b - 0x20) b
 
 -- these bytes as typed
 abbrev pub literal : List ℕ → Part → Part
-literal word then s = spelled typed word then s
+literal word then = spelled typed word then
 
 -- these capitals, in either case
 abbrev pub caseless : List ℕ → Part → Part
-caseless word then s = spelled capital word then s
+caseless word then = spelled capital word then
 
 -- at least one whitespace character, and all that follow
 unfoldable pub blanks : Part → Part

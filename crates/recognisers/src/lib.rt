@@ -1,7 +1,10 @@
 // The recognisers of src/tokenizer.rs that look at the text alone, each under its Rust name. A recogniser gets the rest of the
 // statement from the present token on.
 mod comment;
+mod parens;
 mod scan;
+mod strings;
+mod type_specifier;
 
 // The SQL dialect, as in src/lib.rs.
 pub enum Dialect {

@@ -9,7 +9,7 @@ ghost use Prim.Native.Nat.{_+_, _^_, _<_};
 ghost use lib.Dec.{eqb};
 ghost use mathlib.Core.Bool.{_&&_};
 ghost use lib.ListN.{length, drop};
-ghost use Rattle.recognisers.specs.Taking.{taken, more, or, typed, capital, isSpelled, endOfWord, isDigit, count, atLeast, contains, startsWith};
+ghost use Rattle.recognisers.specs.Taking.{taken, more, or, done, literal, caseless, typed, capital, isSpelled, endOfWord, isDigit, count, atLeast, contains, startsWith};
 ghost use Rattle.recognisers.specs.Pieces.{tokenOf, alt};
 ghost use Rattle.unicode.specs.Classes.{isWordCharacter};
 
@@ -154,6 +154,27 @@ pub fn end_of_word(rest: &[u8]) -> Taken
     } else {
         Taken::Bytes(0)
     }
+}
+
+// The word alone, as typed.
+pub fn exactly(rest: &[u8], word: &[u8]) -> Taken
+    ensures { λ r. ⌜ r ≡ literal (now (word .entry)) done (now (rest .entry)) ⌝ }
+{
+    if starts_with(rest, word) {
+        return Taken::Bytes(word.len());
+    }
+    Taken::Fails
+}
+
+// The word in either case, and no word character behind it.
+pub fn caseless_word(rest: &[u8], word: &[u8]) -> Taken
+    ensures { λ r. ⌜ r ≡ caseless (now (word .entry)) endOfWord (now (rest .entry)) ⌝ }
+{
+    if starts_with_caseless(rest, word) {
+        let n = word.len();
+        return n_more(n, end_of_word(&rest[n..]));
+    }
+    Taken::Fails
 }
 
 pub fn token_of(kind: TokenKind, t: Taken) -> Recognised

@@ -55,6 +55,36 @@ module _ (class : Class) where
   run-none [] h = refl
   run-none (b ∷ s) h = absurd (let z : ⊥ = omega arith in z)
 
+  pub run-inside : (passed : ℕ) (s : List ℕ) → run (inClass class) passed s ≤ length s
+  unfolding run
+  run-inside passed [] = zero-le
+  run-inside (suc passed) (b ∷ s) = suc-le-suc (run-inside passed s)
+  run-inside zero (b ∷ s) = go (inClass class (codePoint (b ∷ s))) (run-inside (continued (continuations b) s) s)
+    where
+      go : (t : Bool) → run (inClass class) (continued (continuations b) s) s ≤ length s → cond t (suc (run (inClass class) (continued (continuations b) s) s)) 0 ≤ suc (length s)
+      go true h = suc-le-suc h
+      go false h = zero-le
+
+  -- no byte is taken exactly where the first character is not of the class
+  pub run-none-class : (s : List ℕ) → 0 < length s → run (inClass class) 0 s ≡ 0 → inClass class (codePoint s) ≡ false
+  run-none-class s o e = go (inClass class (codePoint s)) refl
+    where
+      go : (t : Bool) → inClass class (codePoint s) ≡ t → inClass class (codePoint s) ≡ false
+      go true q =
+          let r = run-step s o in
+          let v : run (inClass class) 0 s ≡ characterLength s + run (inClass class) 0 (drop (characterLength s) s) = r ∙ rw q in
+          absurd (let k = character-some s o in let z : ⊥ = omega arith in z)
+      go false q = q
+
+  pub run-some-class : (s : List ℕ) → (run (inClass class) 0 s ≡ 0 → ⊥) → inClass class (codePoint s) ≡ true
+  unfolding run
+  run-some-class [] n = absurd (n refl)
+  run-some-class (b ∷ s) n = go (inClass class (codePoint (b ∷ s))) refl
+    where
+      go : (t : Bool) → inClass class (codePoint (b ∷ s)) ≡ t → inClass class (codePoint (b ∷ s)) ≡ true
+      go true q = q
+      go false q = absurd (n (rw q))
+
   -- ---- the loop
 
   pub record RunAt (s : List ℕ) (i : ℕ) : Type 0 where

@@ -1,0 +1,67 @@
+// `get_open_paren_token` and `get_close_paren_token`.
+use crate::Dialect;
+use crate::Recognised;
+use crate::Taken;
+use crate::TokenKind;
+use crate::scan::caseless_word;
+use crate::scan::exactly;
+use crate::scan::first_of;
+use crate::scan::n_more;
+use crate::scan::starts_with_caseless;
+use crate::scan::token_of;
+use unicode::Class;
+ghost use mathlib.Core.Path.{_≡_};
+ghost use Rattle.recognisers.specs.Text.{bytes};
+ghost use Rattle.recognisers.specs.Taking.{done, literal, caseless, blanks, endOfWord};
+ghost use Rattle.recognisers.specs.Parens.{inPostgreSql, getOpenParenToken, getCloseParenToken};
+
+fn square(rest: &[u8], bracket: &[u8], dialect: Dialect) -> Taken
+    ensures { λ r. ⌜ r ≡ inPostgreSql dialect (literal (now (bracket .entry)) done) (now (rest .entry)) ⌝ }
+{
+    match dialect {
+        Dialect::Generic => Taken::Fails,
+        Dialect::PostgreSql => exactly(rest, bracket),
+        Dialect::SQLServer => Taken::Fails,
+    }
+}
+
+pub fn get_open_paren_token(rest: &[u8], dialect: Dialect) -> Recognised
+    ensures { λ r. ⌜ r ≡ getOpenParenToken dialect (now (rest .entry)) ⌝ }
+{
+    let round = exactly(rest, b"(");
+    let part = first_of(
+        round,
+        first_of(square(rest, b"[", dialect), caseless_word(rest, b"CASE")),
+    );
+    token_of(TokenKind::OpenParen, part)
+}
+
+// Whitespace, one character at least, and then a word in capitals.
+fn blanks_then_word(rest: &[u8], word: &[u8]) -> Taken
+    ensures { λ r. ⌜ r ≡ blanks (caseless (now (word .entry)) endOfWord) (now (rest .entry)) ⌝ }
+{
+    let n = unicode::run_of(rest, Class::Whitespace);
+    if n == 0 {
+        return Taken::Fails;
+    }
+    n_more(n, caseless_word(&rest[n..], word))
+}
+
+fn end_case(rest: &[u8], end: &[u8], case: &[u8]) -> Taken
+    ensures { λ r. ⌜ r ≡ caseless (now (end .entry)) (blanks (caseless (now (case .entry)) endOfWord)) (now (rest .entry)) ⌝ }
+{
+    if starts_with_caseless(rest, end) {
+        let n = end.len();
+        return n_more(n, blanks_then_word(&rest[n..], case));
+    }
+    Taken::Fails
+}
+
+pub fn get_close_paren_token(rest: &[u8], dialect: Dialect) -> Recognised
+    ensures { λ r. ⌜ r ≡ getCloseParenToken dialect (now (rest .entry)) ⌝ }
+{
+    let round = exactly(rest, b")");
+    let words = first_of(end_case(rest, b"END", b"CASE"), caseless_word(rest, b"END"));
+    let part = first_of(round, first_of(square(rest, b"]", dialect), words));
+    token_of(TokenKind::CloseParen, part)
+}

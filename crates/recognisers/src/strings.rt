@@ -1,0 +1,128 @@
+// `take_till_escaping`, `get_string_token` and `get_placeholder_string_token`.
+use crate::Dialect;
+use crate::Recognised;
+use crate::Taken;
+use crate::TokenKind;
+use crate::scan::first_of;
+use crate::scan::is_among;
+use crate::scan::n_more;
+use crate::scan::stands_at;
+use crate::scan::starts_with;
+use crate::scan::token_of;
+ghost use mathlib.Core.Path.{_≡_};
+ghost use mathlib.Core.Bool.{false, _&&_};
+ghost use Prim.Native.Nat.{_+_, _<_};
+ghost use lib.ListN.{length, drop, getD};
+ghost use Rattle.recognisers.specs.Text.{byte, bytes};
+ghost use Rattle.recognisers.specs.Taking.{or, literal, contains, startsWith};
+ghost use Rattle.recognisers.specs.Strings.{takeTillEscaping, closedBy, inSQLServer, hexPart, quotedPart, stringPart, getStringToken, placeholderQuotedPart, placeholderStringPart};
+
+// An escape stands at i, and the desired byte behind it.
+fn escaped_at(rest: &[u8], i: usize, desired: u8, escapes: &[u8]) -> bool
+    requires { ⌜ i < length (now rest) ⌝ }
+    ensures { λ r. ⌜ r ≡ (startsWith desired (drop (i + 1) (now (rest .entry))) && contains (now (escapes .entry)) (getD (now (rest .entry)) i 0)) ⌝ }
+{
+    stands_at(rest, i + 1, desired) && is_among(escapes, rest[i])
+}
+
+pub fn take_till_escaping(rest: &[u8], desired: u8, escapes: &[u8]) -> Taken
+    ensures { λ r. ⌜ r ≡ takeTillEscaping desired (now (escapes .entry)) false (now (rest .entry)) ⌝ }
+{
+    let mut i = 0;
+    while i < rest.len() {
+        if escaped_at(rest, i, desired, escapes) {
+            i += 2;
+        } else {
+            if rest[i] == desired {
+                return Taken::Bytes(i);
+            }
+            i += 1;
+        }
+    }
+    Taken::Fails
+}
+
+// `(take_till_escaping(..), any)`: through the closing quote.
+fn closed_by(rest: &[u8], desired: u8, escapes: &[u8]) -> Taken
+    ensures { λ r. ⌜ r ≡ closedBy desired (now (escapes .entry)) (now (rest .entry)) ⌝ }
+{
+    n_more(1, take_till_escaping(rest, desired, escapes))
+}
+
+fn quoted(rest: &[u8], opener: &[u8], desired: u8, escapes: &[u8]) -> Taken
+    ensures { λ r. ⌜ r ≡ literal (now (opener .entry)) (closedBy desired (now (escapes .entry))) (now (rest .entry)) ⌝ }
+{
+    if starts_with(rest, opener) {
+        let n = opener.len();
+        return n_more(n, closed_by(&rest[n..], desired, escapes));
+    }
+    Taken::Fails
+}
+
+fn bracketed(rest: &[u8], dialect: Dialect) -> Taken
+    ensures { λ r. ⌜ r ≡ inSQLServer dialect (literal (bytes "[") (closedBy (byte "]") (bytes "]"))) (now (rest .entry)) ⌝ }
+{
+    match dialect {
+        Dialect::Generic => Taken::Fails,
+        Dialect::PostgreSql => Taken::Fails,
+        Dialect::SQLServer => quoted(rest, b"[", b']', b"]"),
+    }
+}
+
+fn hex_part(rest: &[u8]) -> Taken
+    ensures { λ r. ⌜ r ≡ hexPart (now (rest .entry)) ⌝ }
+{
+    first_of(
+        quoted(rest, b"x'", b'\'', b""),
+        quoted(rest, b"X'", b'\'', b""),
+    )
+}
+
+// National strings, those with an E before them, and hexadecimal ones.
+fn prefixed_part(rest: &[u8]) -> Taken
+    ensures { λ r. ⌜ r ≡ or (literal (bytes "N'") (closedBy (byte "'") (bytes "'\\")) (now (rest .entry))) (or (literal (bytes "E'") (closedBy (byte "'") (bytes "'\\")) (now (rest .entry))) (hexPart (now (rest .entry)))) ⌝ }
+{
+    let national = quoted(rest, b"N'", b'\'', b"'\\");
+    let escape = quoted(rest, b"E'", b'\'', b"'\\");
+    first_of(national, first_of(escape, hex_part(rest)))
+}
+
+fn quoted_part(rest: &[u8]) -> Taken
+    ensures { λ r. ⌜ r ≡ quotedPart (now (rest .entry)) ⌝ }
+{
+    let double = quoted(rest, b"\"", b'"', b"\"\\");
+    let single = quoted(rest, b"'", b'\'', b"'\\");
+    first_of(double, first_of(single, prefixed_part(rest)))
+}
+
+fn string_part(rest: &[u8], dialect: Dialect) -> Taken
+    ensures { λ r. ⌜ r ≡ stringPart dialect (now (rest .entry)) ⌝ }
+{
+    let tick = quoted(rest, b"`", b'`', b"`");
+    first_of(tick, first_of(bracketed(rest, dialect), quoted_part(rest)))
+}
+
+pub fn get_string_token(rest: &[u8], dialect: Dialect) -> Recognised
+    ensures { λ r. ⌜ r ≡ getStringToken dialect (now (rest .entry)) ⌝ }
+{
+    token_of(TokenKind::String, string_part(rest, dialect))
+}
+
+// Like `quoted_part`, with other escapes.
+fn placeholder_quoted_part(rest: &[u8]) -> Taken
+    ensures { λ r. ⌜ r ≡ placeholderQuotedPart (now (rest .entry)) ⌝ }
+{
+    let double = quoted(rest, b"\"", b'"', b"\\");
+    let single = quoted(rest, b"'", b'\'', b"\\");
+    first_of(double, first_of(single, quoted(rest, b"N'", b'\'', b"\\")))
+}
+
+pub fn placeholder_string_part(rest: &[u8], dialect: Dialect) -> Taken
+    ensures { λ r. ⌜ r ≡ placeholderStringPart dialect (now (rest .entry)) ⌝ }
+{
+    let tick = quoted(rest, b"`", b'`', b"`");
+    first_of(
+        tick,
+        first_of(bracketed(rest, dialect), placeholder_quoted_part(rest)),
+    )
+}
