@@ -475,7 +475,7 @@ def phrases(vectors):
             if title != "plain, one word":
                 for follower in word_characters:
                     vectors.case(phrase + follower)
-                for follower in marks[:6]:
+                for follower in marks[:4]:
                     vectors.case(phrase + follower + "x")
                 vectors.case("_" + phrase)
                 vectors.case("x " + phrase + " y")
@@ -570,7 +570,7 @@ def memory(vectors):
         vectors.case((text + " using EXCEPT SET USING").lstrip(" "))
 
     vectors.group("a join given out as top level is not remembered")
-    for join_phrase in ("JOIN u", "join u", "LEFT OUTER JOIN u", "INNER  ANY\nJOIN u", "CROSS APPLY u"):
+    for join_phrase in ("JOIN u", "join u", "LEFT  OUTER\nJOIN u", "CROSS APPLY u"):
         for text in ("", "SELECT a ", "UPDATE t ", "MERGE INTO t ", "DELETE FROM t ", "FROM t ", "BETWEEN 1 "):
             for joins in (0, 1):
                 for word in ("EXCEPT", "SET", "USING", "AND"):
@@ -628,7 +628,7 @@ def strings(vectors):
     for opener in openers:
         quote = {"[": "]"}.get(opener, opener[-1])
         bodies = (
-            "", "a", "a b", "a\\", "\\", "\\\\", "\\a", quote + quote, "a" + quote + quote + "b", "\\" + quote,
+            "", "a", "a\\", "\\", "\\\\", "\\a", quote + quote, "a" + quote + quote + "b", "\\" + quote,
             "a\\" + quote + "b", "\\\\" + quote, quote + "\\" + quote, "\\" + quote + quote, "\\" + quote + "\\" + quote,
             quote + quote + quote + quote, "\u00e9\n\u00a0", "a--b\n/*",
         )  # fmt: skip
@@ -779,7 +779,7 @@ def type_specifiers(vectors):
         "SELECT a EXCEPT", "EXCEPT",
     )  # fmt: skip
     for text in before:
-        for specifier in ("::", "[]", " ::", " []", "\n\u3000[]", "::[]", "[]::", "[][]", ":::", "::::", "[ ]", "[", ":", "::a", "::'a'", "[1]", "[]]"):
+        for specifier in ("::", "[]", " ::", "\n\u3000[]", "::[]", "[]::", ":::", "[ ]", "::'a'", "[1]", "[]]"):
             vectors.every_dialect(text + specifier)
     vectors.group("type specifiers after a join, under both join settings")
     for text in ("JOIN", "a JOIN", "LEFT OUTER JOIN", "join"):
@@ -833,8 +833,8 @@ def characters(vectors):
     )  # fmt: skip
     for sign in signs:
         for text in (
-            sign, "a" + sign, sign + "a", "a" + sign + "b", sign + sign, "=" + sign, "FROM" + sign, "FROM " + sign, "CASE" + sign, "1" + sign, ":" + sign, ":a" + sign + "b", "?" + sign,
-            "t." + sign, sign + "::", "'" + sign + "'", "@'" + sign + "'", "$" + sign, "$$" + sign,
+            sign, "a" + sign + "b", sign + sign, "=" + sign, "FROM" + sign, "CASE" + sign, "1" + sign, ":" + sign, ":a" + sign + "b", "?" + sign,
+            "t." + sign, sign + "::", "@'" + sign + "'", "$$" + sign,
         ):  # fmt: skip
             vectors.case(text)
     vectors.group("ASCII, each character in five places")
@@ -927,7 +927,7 @@ def refusals(vectors):
     vectors.case(b"\n", repeat=65536)
     vectors.case(b"\r", repeat=65536)
     vectors.case(b"\x00", repeat=300, first=4)
-    vectors.case(b"$", repeat=65536, first=4)
+    vectors.case(b"$", repeat=1000, first=4)
     vectors.case(b"?", repeat=65536, first=4)
     vectors.case(b"?", repeat=65537)
     vectors.case(b"(", repeat=65536, first=4)
@@ -961,7 +961,7 @@ def short_texts(vectors):
 
 
 def whole_searches(vectors):
-    vectors.group("whole searches, every dialect, order and join setting")
+    vectors.group("whole searches, every dialect and order; those with a join, both join settings")
     for text in (
         "SELECT id, gap_start, gap_len FROM furnace_gaps WHERE zone = ? AND gap_len >= ? ORDER BY gap_start LIMIT 10;",
         "select distinct g.stand, g.from, g.end from gaps g left outer join slabs s using (slab_id) where s.len between $1 AND $2 and g.zone = 'N\\'7'",
@@ -979,7 +979,7 @@ def whole_searches(vectors):
     ):
         for dialect in DIALECTS:
             for named in (0, 1):
-                for joins in (0, 1):
+                for joins in (0, 1) if "join" in text.lower() else (0,):
                     vectors.case(text, dialect, joins, named)
 
 
@@ -992,7 +992,7 @@ def random_texts(vectors):
         "'a'", "'", "\"b\"", "\"", "`", "[", "]", "[c]", "[]", "::", "\\", "\\'", "N'", "E'", "x'", "?", "?1", "$1", "$x", "$$", "@a", ":b", "@'k'", "@\"k\\\"", "{k}", "{", "}", "(", ")", ",", ";", ".", "=", "<>", "--", "--c\n",
         "#", "#c\r\n", "/*", "*/", "/*c*/", "+", "-", "*", "@", ":", "\n", "\r", "\r\n", "\t", "  ", "\u00a0", "\u2003", "\u20ac", "\U0001f600", "\u200b",
     )  # fmt: skip
-    for _ in range(1500):
+    for _ in range(700):
         text = ""
         for _ in range(chance.randint(1, 14)):
             text += chance.choice(pieces)
@@ -1000,7 +1000,7 @@ def random_texts(vectors):
         vectors.case(text, chance.randint(0, 2), chance.randint(0, 1), chance.randint(0, 1))
     vectors.group("random texts of single characters, random settings")
     signs = "aAeENx1.-'\"`[]\\@:$?{}()=#/* \n\r\u00e9\u0301\u00a0_;"
-    for _ in range(1500):
+    for _ in range(700):
         text = "".join(chance.choice(signs) for _ in range(chance.randint(3, 18)))
         vectors.case(text, chance.randint(0, 2), chance.randint(0, 1), chance.randint(0, 1))
     vectors.group("random bytes")

@@ -4,18 +4,20 @@ use Prim.Native.Nat.{ℕ, _+_, _^_, _<_}
 use native.Mathlib.Omega.{arith}
 use mathlib.Core.Path.{_≡_, sym, _∙_}
 use mathlib.Core.List.{List}
-use mathlib.Core.Bool.{Bool, true, false, cond, _&&_}
+use mathlib.Core.Bool.{Bool, true, false, cond, _&&_, _||_}
 use lib.ListN.{drop}
 use mir.Syntax.{w64}
 use mir.Val.{Fits}
 use Rattle.recognisers.specs.declared.Taken.{Taken}
 use Rattle.recognisers.specs.declared.Taken.the-variants.{Bytes, Fails}
 use Rattle.recognisers.specs.declared.TokenKind.{TokenKind}
+use Rattle.recognisers.specs.declared.TokenKind.the-variants.{Operator}
 use Rattle.recognisers.specs.declared.Key.the-variants.{None}
 use Rattle.recognisers.specs.declared.Piece.{Piece}
 use Rattle.recognisers.specs.declared.Recognised.{Recognised}
 use Rattle.recognisers.specs.declared.Recognised.the-variants.{Token, Nothing}
-use Rattle.recognisers.specs.Taking.{taken, more, or, endOfWord}
+use Rattle.recognisers.specs.Taking.{taken, more, or, endOfWord, atLeast, startsWith}
+use Rattle.recognisers.specs.Words.{getAnyOtherChar}
 use Rattle.recognisers.specs.Pieces.{piece, tokenOf, alt}
 use Rattle.unicode.specs.declared.Character.{Character}
 use Rattle.unicode.specs.Classes.{isWordCharacter}
@@ -68,3 +70,21 @@ module _ {A : Type 0} (t : Bool) (x y r : A) where
 
   pub cond-no : t ≡ false → r ≡ y → r ≡ cond t x y
   cond-no e q = rw e q
+
+-- `a || b` in code: the second is asked only where the first says no
+module _ (a b r : Bool) (e : r ≡ a) where
+  pub or-first : r ≡ true → r ≡ (a || b)
+  or-first t = rw (← e, t)
+
+  pub or-second : (q : Bool) → r ≡ false → q ≡ b → q ≡ (a || b)
+  or-second q t f = rw (← e, t) f
+
+-- `get_any_other_char`
+module _ (s : List ℕ) (r : Bool) (e : r ≡ (startsWith 10 s || startsWith 13 s)) where
+  pub other-break : r ≡ true → Nothing ≡ getAnyOtherChar s
+  unfolding getAnyOtherChar
+  other-break t = rw (← e, t)
+
+  pub other-char : (x : Character) (t : Taken) (q : Recognised) → r ≡ false → x ≡ character (drop 0 s) → t ≡ atLeast 1 (x .len) → q ≡ tokenOf Operator t → q ≡ getAnyOtherChar s
+  unfolding getAnyOtherChar character
+  other-char x t q y w f g = g ∙ rw (← e, y, f, w)

@@ -6,3 +6,4 @@ pub mod Cases
 pub mod Comments
 pub mod Quotes
 pub mod Blanks
+pub mod Digits

@@ -1,20 +1,21 @@
 -- `get_number_token`, `decimal_number` and `scientific_notation`.
 use Prim.Native.Nat.{ℕ}
-use mathlib.Core.Bool.{_||_}
 use mathlib.Core.List.{List}
-use lib.Dec.{eqb}
 use Rattle.recognisers.specs.declared.TokenKind.the-variants.{Number}
 use Rattle.recognisers.specs.declared.Recognised.{Recognised}
-use Rattle.recognisers.specs.Text.{byte, bytes}
-use Rattle.recognisers.specs.Taking.{Part, or, done, one, literal, digit1, digit0}
+use Rattle.recognisers.specs.Text.{bytes}
+use Rattle.recognisers.specs.Taking.{Part, or, done, one, literal, digit1, digit0, contains}
 use Rattle.recognisers.specs.Pieces.{tokenOf}
 
 unfoldable pub decimalNumber : Part → Part
 decimalNumber then s = digit1 (literal (bytes ".") (digit0 then)) s
 
--- `e`, a sign or none, digits
+-- a sign or none, and digits
+unfoldable pub signedDigits : Part
+signedDigits s = or (one (contains (bytes "-+")) (digit1 done) s) (digit1 done s)
+
 unfoldable pub exponent : Part
-exponent s = literal (bytes "e") (λ t. or (one (λ b. eqb b (byte "-") || eqb b (byte "+")) (digit1 done) t) (digit1 done t)) s
+exponent s = literal (bytes "e") signedDigits s
 
 unfoldable pub scientificNotation : Part
 scientificNotation s = or (decimalNumber exponent s) (digit1 exponent s)

@@ -9,6 +9,8 @@ use Rattle.recognisers.specs.declared.Taken.{Taken}
 use Rattle.recognisers.specs.declared.Taken.the-variants.{Bytes, Fails}
 use Rattle.recognisers.specs.declared.Key.{Key}
 use Rattle.recognisers.specs.declared.Key.the-variants.{None, Named, Escaped, ZeroIndexed, OneIndexed}
+use Rattle.recognisers.specs.declared.Number.{Number}
+use Rattle.recognisers.specs.declared.Number.the-variants.{Is, Overflows}
 use Rattle.recognisers.specs.declared.TokenKind.the-variants.{Placeholder}
 use Rattle.recognisers.specs.declared.Recognised.{Recognised}
 use Rattle.recognisers.specs.declared.Recognised.the-variants.{Token, Nothing}
@@ -29,11 +31,17 @@ unfoldable pub numberFrom : ℕ → List ℕ → ℕ
 numberFrom n [] = n
 numberFrom n (d ∷ digits) = numberFrom (n * 10 + (d - byte "0")) digits
 
+-- that number where it fits 64 bits
+abbrev pub numberOf : List ℕ → Number
+numberOf digits = cond (ltb (numberFrom 0 digits) (2 ^ 64)) (Is (numberFrom 0 digits)) Overflows
+
+abbrev pub indexed : Bool → Number → Key
+indexed fromOne (Is n) = cond fromOne (OneIndexed n) (ZeroIndexed n)
+indexed fromOne Overflows = None
+
 -- the key of a mark and n - 1 digits: none without digits, and none where the number does not fit 64 bits
 unfoldable pub indexedKey : List ℕ → ℕ → Key
-indexedKey s n =
-    cond (leb n 1 || leb (2 ^ 64) (numberFrom 0 (take (n - 1) (drop 1 s)))) None
-    (cond (startsWith (byte "$") s) (OneIndexed (numberFrom 0 (take (n - 1) (drop 1 s)))) (ZeroIndexed (numberFrom 0 (take (n - 1) (drop 1 s)))))
+indexedKey s n = cond (leb n 1) None (indexed (startsWith (byte "$") s) (numberOf (take (n - 1) (drop 1 s))))
 
 unfoldable pub getIndexedPlaceholderToken : List ℕ → Recognised
 getIndexedPlaceholderToken s =
@@ -52,9 +60,12 @@ throughBrace [] = Fails
 throughBrace (b ∷ s) = cond (eqb b (byte "}")) (Bytes 1) (more 1 (throughBrace s))
 
 -- what stands between the braces must not be empty
+unfoldable pub bracedText : Part
+bracedText s = cond (startsWith (byte "}") s) Fails (throughBrace s)
+
 unfoldable pub getBracedNamedPlaceholderToken : List ℕ → Recognised
 getBracedNamedPlaceholderToken s =
-    keyed (λ n. Named 1 (n - 2)) (literal (bytes "{") (λ t. cond (startsWith (byte "}") t) Fails (throughBrace t)) s)
+    keyed (λ n. Named 1 (n - 2)) (literal (bytes "{") bracedText s)
 
 -- a backslash directly before the quote
 unfoldable pub hasEscape : ℕ → List ℕ → Bool

@@ -1,10 +1,12 @@
 // The recognisers of src/tokenizer.rs that look at the text alone, each under its Rust name. A recogniser gets the rest of the
 // statement from the present token on.
 mod comment;
+mod numbers;
 mod parens;
 mod scan;
 mod strings;
 mod type_specifier;
+mod words;
 
 // The SQL dialect, as in src/lib.rs.
 pub enum Dialect {
@@ -55,6 +57,12 @@ pub struct Piece {
 pub enum Recognised {
     Token(Piece),
     Nothing,
+}
+
+// What digits spell.
+pub enum Number {
+    Is(u64),
+    Overflows,
 }
 
 // How many bytes of a rest a part of a recogniser takes.

@@ -9,7 +9,7 @@ ghost use Prim.Native.Nat.{_+_, _^_, _<_};
 ghost use lib.Dec.{eqb};
 ghost use mathlib.Core.Bool.{_&&_};
 ghost use lib.ListN.{length, drop};
-ghost use Rattle.recognisers.specs.Taking.{taken, more, or, done, literal, caseless, typed, capital, isSpelled, endOfWord, isDigit, count, atLeast, contains, startsWith};
+ghost use Rattle.recognisers.specs.Taking.{taken, more, or, done, literal, caseless, typed, capital, isSpelled, endOfWord, isDigit, count, atLeast, contains, startsAmong, startsWith};
 ghost use Rattle.recognisers.specs.Pieces.{tokenOf, alt};
 ghost use Rattle.unicode.specs.Classes.{isWordCharacter};
 
@@ -154,6 +154,16 @@ pub fn end_of_word(rest: &[u8]) -> Taken
     } else {
         Taken::Bytes(0)
     }
+}
+
+// One of the marks stands at the start.
+pub fn starts_among(rest: &[u8], marks: &[u8]) -> bool
+    ensures { λ r. ⌜ r ≡ startsAmong (now (marks .entry)) (now (rest .entry)) ⌝ }
+{
+    if rest.len() == 0 {
+        return false;
+    }
+    is_among(marks, rest[0])
 }
 
 // The word alone, as typed.

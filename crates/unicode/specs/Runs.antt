@@ -8,9 +8,9 @@ use Rattle.unicode.specs.Classes.{isWhitespace, isWordCharacter, isPlace
 use Rattle.unicode.specs.Character.{continuations, continued, codePoint}
 
 unfoldable pub inClass : Class → ℕ → Bool
-inClass Whitespace c = isWhitespace c
-inClass Word c = isWordCharacter c
-inClass PlaceholderName c = isPlaceholderNameCharacter c
+inClass Whitespace = isWhitespace
+inClass Word = isWordCharacter
+inClass PlaceholderName = isPlaceholderNameCharacter
 
 -- how many bytes the characters of the class take at the start, where the first `passed` bytes belong to a character that
 -- has been seen
