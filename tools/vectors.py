@@ -14,6 +14,7 @@ import random
 import sys
 from pathlib import Path
 
+sys.dont_write_bytecode = True
 sys.path.insert(0, str(Path(__file__).resolve().parent))
 import reading  # noqa: E402
 
@@ -446,8 +447,8 @@ def spread(phrase, gaps):
 
 
 WIDE_ASCII = ("  \t", "\n\x0b ", "\x0c\r\n")
-WIDE_OTHER = ("\u00a0", "\u2003 \u3000", "\u0085")
-WIDE_TURNED = ("\u3000", "\u0085\n", " \u00a0\u2003")
+WIDE_OTHER = ("\u00a0\u2003", "\u3000", "\u0085 ")
+WIDE_TURNED = ("\u0085\u3000", "\u2003\n", " \u00a0")
 
 
 def phrases(vectors):

@@ -7,3 +7,4 @@ pub mod Comments
 pub mod Quotes
 pub mod Blanks
 pub mod Digits
+pub mod PlaceholderLaws

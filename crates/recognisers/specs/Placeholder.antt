@@ -43,16 +43,21 @@ indexed fromOne Overflows = None
 unfoldable pub indexedKey : List ℕ → ℕ → Key
 indexedKey s n = cond (leb n 1) None (indexed (startsWith (byte "$") s) (numberOf (take (n - 1) (drop 1 s))))
 
+unfoldable pub indexedPart : Part
+indexedPart s = or (one (contains (bytes "?$")) (digit1 done) s) (literal (bytes "?") done s)
+
 unfoldable pub getIndexedPlaceholderToken : List ℕ → Recognised
-getIndexedPlaceholderToken s =
-    keyed (indexedKey s) (or (one (contains (bytes "?$")) (digit1 done) s) (literal (bytes "?") done s))
+getIndexedPlaceholderToken s = keyed (indexedKey s) (indexedPart s)
 
 -- the characters of a placeholder's name, one at least
 unfoldable pub placeholderName : Part
 placeholderName s = atLeast 1 (run isPlaceholderNameCharacter 0 s)
 
+unfoldable pub identPart : Part
+identPart s = one (contains (bytes "@:$")) placeholderName s
+
 unfoldable pub getIdentNamedPlaceholderToken : List ℕ → Recognised
-getIdentNamedPlaceholderToken s = keyed (λ n. Named 1 (n - 1)) (one (contains (bytes "@:$")) placeholderName s)
+getIdentNamedPlaceholderToken s = keyed (λ n. Named 1 (n - 1)) (identPart s)
 
 -- through the first `}`
 unfoldable pub throughBrace : Part
@@ -63,9 +68,11 @@ throughBrace (b ∷ s) = cond (eqb b (byte "}")) (Bytes 1) (more 1 (throughBrace
 unfoldable pub bracedText : Part
 bracedText s = cond (startsWith (byte "}") s) Fails (throughBrace s)
 
+unfoldable pub bracedPart : Part
+bracedPart s = literal (bytes "{") bracedText s
+
 unfoldable pub getBracedNamedPlaceholderToken : List ℕ → Recognised
-getBracedNamedPlaceholderToken s =
-    keyed (λ n. Named 1 (n - 2)) (literal (bytes "{") bracedText s)
+getBracedNamedPlaceholderToken s = keyed (λ n. Named 1 (n - 2)) (bracedPart s)
 
 -- a backslash directly before the quote
 unfoldable pub hasEscape : ℕ → List ℕ → Bool
@@ -77,8 +84,11 @@ hasEscape quote (b ∷ s) = (eqb b (byte "\\") && startsWith quote s) || hasEsca
 unfoldable pub stringKey : List ℕ → ℕ → Key
 stringKey s n = cond (hasEscape (getD s (n - 1) 0) (take (n - 3) (drop 2 s))) (Escaped 2 (n - 3)) (Named 2 (n - 3))
 
+unfoldable pub stringNamedPart : Dialect → Part
+stringNamedPart dialect s = one (contains (bytes "@:")) (placeholderStringPart dialect) s
+
 unfoldable pub getStringNamedPlaceholderToken : Dialect → List ℕ → Recognised
-getStringNamedPlaceholderToken dialect s = keyed (stringKey s) (one (contains (bytes "@:")) (placeholderStringPart dialect) s)
+getStringNamedPlaceholderToken dialect s = keyed (stringKey s) (stringNamedPart dialect s)
 
 -- the order of the alternatives goes by the setting
 unfoldable pub getPlaceholderToken : Bool → Dialect → List ℕ → Recognised

@@ -3,10 +3,28 @@
 mod comment;
 mod numbers;
 mod parens;
+mod placeholders;
 mod scan;
 mod strings;
 mod type_specifier;
 mod words;
+
+pub use comment::get_comment_token;
+pub use numbers::get_number_token;
+pub use parens::get_close_paren_token;
+pub use parens::get_open_paren_token;
+pub use placeholders::get_placeholder_token;
+pub use scan::capital_of;
+pub use scan::end_of_word;
+pub use scan::first_recognised;
+pub use scan::n_more;
+pub use scan::starts_with;
+pub use strings::get_string_token;
+pub use type_specifier::get_type_specifier_token;
+pub use words::get_any_other_char;
+pub use words::get_operator_token;
+pub use words::get_whitespace_token;
+pub use words::get_word_token;
 
 // The SQL dialect, as in src/lib.rs.
 pub enum Dialect {

@@ -1,0 +1,302 @@
+// The four placeholders and their keys.
+use crate::Dialect;
+use crate::Key;
+use crate::Number;
+use crate::Piece;
+use crate::Recognised;
+use crate::Taken;
+use crate::TokenKind;
+use crate::numbers::marked_digits;
+use crate::scan::at_least;
+use crate::scan::exactly;
+use crate::scan::first_of;
+use crate::scan::first_recognised;
+use crate::scan::n_more;
+use crate::scan::pair_stands_at;
+use crate::scan::stands_at;
+use crate::scan::starts_among;
+use crate::scan::starts_with;
+use crate::strings::placeholder_string_part;
+use unicode::Class;
+ghost use mathlib.Core.Path.{_≡_};
+ghost use mathlib.Core.Bool.{true, false};
+ghost use Prim.Native.Nat.{_-_, _≤_};
+ghost use lib.ListN.{length};
+ghost use Rattle.recognisers.specs.Taking.{one, literal, contains};
+ghost use Rattle.recognisers.specs.Strings.{placeholderStringPart};
+ghost use Rattle.recognisers.specs.Placeholder.{numberOf, indexed, indexedKey, indexedPart, getIndexedPlaceholderToken, placeholderName, identPart, getIdentNamedPlaceholderToken, throughBrace, bracedText, bracedPart, getBracedNamedPlaceholderToken, hasEscape, stringKey, stringNamedPart, getStringNamedPlaceholderToken, getPlaceholderToken};
+
+fn digit_of(b: u8) -> u64
+    ensures { λ r. ⌜ r ≡ b - 48 ⌝ }
+{
+    if b < 48 { 0 } else { (b - 48) as u64 }
+}
+
+// The number that the digits spell, where it fits 64 bits.
+fn number_of(digits: &[u8]) -> Number
+    ensures { λ r. ⌜ r ≡ numberOf (now (digits .entry)) ⌝ }
+{
+    let mut n: u64 = 0;
+    let mut i = 0;
+    while i < digits.len() {
+        let d = digit_of(digits[i]);
+        if n <= (18446744073709551615 - d) / 10 {
+            n = n * 10 + d;
+            i += 1;
+        } else {
+            return Number::Overflows;
+        }
+    }
+    Number::Is(n)
+}
+
+fn indexed_by(from_one: bool, number: Number) -> Key
+    ensures { λ r. ⌜ r ≡ indexed «from_one» number ⌝ }
+{
+    match number {
+        Number::Is(n) => {
+            if from_one {
+                Key::OneIndexed(n)
+            } else {
+                Key::ZeroIndexed(n)
+            }
+        }
+        Number::Overflows => Key::None,
+    }
+}
+
+fn indexed_key(rest: &[u8], n: usize) -> Key
+    requires { ⌜ n ≤ length (now rest) ⌝ }
+    ensures { λ r. ⌜ r ≡ indexedKey (now (rest .entry)) n ⌝ }
+{
+    if n <= 1 {
+        return Key::None;
+    }
+    indexed_by(stands_at(rest, 0, b'$'), number_of(&rest[1..n]))
+}
+
+fn indexed_part(rest: &[u8]) -> Taken
+    ensures { λ r. ⌜ r ≡ indexedPart (now (rest .entry)) ⌝ }
+{
+    first_of(marked_digits(rest, b"?$"), exactly(rest, b"?"))
+}
+
+pub fn get_indexed_placeholder_token(rest: &[u8]) -> Recognised
+    ensures { λ r. ⌜ r ≡ getIndexedPlaceholderToken (now (rest .entry)) ⌝ }
+{
+    let part = indexed_part(rest);
+    match part {
+        Taken::Bytes(n) => {
+            let key = indexed_key(rest, n);
+            Recognised::Token(Piece {
+                kind: TokenKind::Placeholder,
+                len: n,
+                alias: n,
+                key: key,
+            })
+        }
+        Taken::Fails => Recognised::Nothing,
+    }
+}
+
+fn less(n: usize, k: usize) -> usize
+    ensures { λ r. ⌜ r ≡ n - k ⌝ }
+{
+    if n < k { 0 } else { n - k }
+}
+
+fn placeholder_name(rest: &[u8]) -> Taken
+    ensures { λ r. ⌜ r ≡ placeholderName (now (rest .entry)) ⌝ }
+{
+    at_least(1, unicode::run_of(rest, Class::PlaceholderName))
+}
+
+fn marked_name(rest: &[u8], marks: &[u8]) -> Taken
+    ensures { λ r. ⌜ r ≡ one (contains (now (marks .entry))) placeholderName (now (rest .entry)) ⌝ }
+{
+    if starts_among(rest, marks) {
+        return n_more(1, placeholder_name(&rest[1..]));
+    }
+    Taken::Fails
+}
+
+fn ident_part(rest: &[u8]) -> Taken
+    ensures { λ r. ⌜ r ≡ identPart (now (rest .entry)) ⌝ }
+{
+    marked_name(rest, b"@:$")
+}
+
+pub fn get_ident_named_placeholder_token(rest: &[u8]) -> Recognised
+    ensures { λ r. ⌜ r ≡ getIdentNamedPlaceholderToken (now (rest .entry)) ⌝ }
+{
+    let part = ident_part(rest);
+    match part {
+        Taken::Bytes(n) => {
+            let len = less(n, 1);
+            Recognised::Token(Piece {
+                kind: TokenKind::Placeholder,
+                len: n,
+                alias: n,
+                key: Key::Named { start: 1, len: len },
+            })
+        }
+        Taken::Fails => Recognised::Nothing,
+    }
+}
+
+fn through_brace(rest: &[u8]) -> Taken
+    ensures { λ r. ⌜ r ≡ throughBrace (now (rest .entry)) ⌝ }
+{
+    let mut i = 0;
+    while i < rest.len() {
+        if rest[i] == b'}' {
+            return Taken::Bytes(i + 1);
+        }
+        i += 1;
+    }
+    Taken::Fails
+}
+
+fn braced_text(rest: &[u8]) -> Taken
+    ensures { λ r. ⌜ r ≡ bracedText (now (rest .entry)) ⌝ }
+{
+    if stands_at(rest, 0, b'}') {
+        return Taken::Fails;
+    }
+    through_brace(rest)
+}
+
+fn braced_after(rest: &[u8], brace: &[u8]) -> Taken
+    ensures { λ r. ⌜ r ≡ literal (now (brace .entry)) bracedText (now (rest .entry)) ⌝ }
+{
+    if starts_with(rest, brace) {
+        let n = brace.len();
+        return n_more(n, braced_text(&rest[n..]));
+    }
+    Taken::Fails
+}
+
+fn braced_part(rest: &[u8]) -> Taken
+    ensures { λ r. ⌜ r ≡ bracedPart (now (rest .entry)) ⌝ }
+{
+    braced_after(rest, b"{")
+}
+
+pub fn get_braced_named_placeholder_token(rest: &[u8]) -> Recognised
+    ensures { λ r. ⌜ r ≡ getBracedNamedPlaceholderToken (now (rest .entry)) ⌝ }
+{
+    let part = braced_part(rest);
+    match part {
+        Taken::Bytes(n) => {
+            let len = less(n, 2);
+            Recognised::Token(Piece {
+                kind: TokenKind::Placeholder,
+                len: n,
+                alias: n,
+                key: Key::Named { start: 1, len: len },
+            })
+        }
+        Taken::Fails => Recognised::Nothing,
+    }
+}
+
+// A backslash stands directly before the quote.
+fn has_escape(text: &[u8], quote: u8) -> bool
+    ensures { λ r. ⌜ r ≡ hasEscape quote (now (text .entry)) ⌝ }
+{
+    let mut i = 0;
+    while i < text.len() {
+        if pair_stands_at(text, i, b'\\', quote) {
+            return true;
+        }
+        i += 1;
+    }
+    false
+}
+
+fn string_key(rest: &[u8], n: usize) -> Key
+    requires { ⌜ n ≤ length (now rest) ⌝ }
+    ensures { λ r. ⌜ r ≡ stringKey (now (rest .entry)) n ⌝ }
+{
+    if n < 3 {
+        return Key::Named { start: 2, len: 0 };
+    }
+    let end = n - 1;
+    let quote = rest[end];
+    if has_escape(&rest[2..end], quote) {
+        return Key::Escaped {
+            start: 2,
+            len: n - 3,
+        };
+    }
+    Key::Named {
+        start: 2,
+        len: n - 3,
+    }
+}
+
+fn marked_string(rest: &[u8], marks: &[u8], dialect: Dialect) -> Taken
+    ensures { λ r. ⌜ r ≡ one (contains (now (marks .entry))) (placeholderStringPart dialect) (now (rest .entry)) ⌝ }
+{
+    if starts_among(rest, marks) {
+        return n_more(1, placeholder_string_part(&rest[1..], dialect));
+    }
+    Taken::Fails
+}
+
+fn string_named_part(rest: &[u8], dialect: Dialect) -> Taken
+    ensures { λ r. ⌜ r ≡ stringNamedPart dialect (now (rest .entry)) ⌝ }
+{
+    marked_string(rest, b"@:", dialect)
+}
+
+pub fn get_string_named_placeholder_token(rest: &[u8], dialect: Dialect) -> Recognised
+    ensures { λ r. ⌜ r ≡ getStringNamedPlaceholderToken dialect (now (rest .entry)) ⌝ }
+{
+    let part = string_named_part(rest, dialect);
+    match part {
+        Taken::Bytes(n) => {
+            let key = string_key(rest, n);
+            Recognised::Token(Piece {
+                kind: TokenKind::Placeholder,
+                len: n,
+                alias: n,
+                key: key,
+            })
+        }
+        Taken::Fails => Recognised::Nothing,
+    }
+}
+
+fn names_first(rest: &[u8], dialect: Dialect) -> Recognised
+    ensures { λ r. ⌜ r ≡ getPlaceholderToken true dialect (now (rest .entry)) ⌝ }
+{
+    let ident = get_ident_named_placeholder_token(rest);
+    let string = get_string_named_placeholder_token(rest, dialect);
+    let others = first_recognised(
+        get_indexed_placeholder_token(rest),
+        get_braced_named_placeholder_token(rest),
+    );
+    first_recognised(ident, first_recognised(string, others))
+}
+
+fn places_first(rest: &[u8], dialect: Dialect) -> Recognised
+    ensures { λ r. ⌜ r ≡ getPlaceholderToken false dialect (now (rest .entry)) ⌝ }
+{
+    let index = get_indexed_placeholder_token(rest);
+    let ident = get_ident_named_placeholder_token(rest);
+    let others = first_recognised(
+        get_string_named_placeholder_token(rest, dialect),
+        get_braced_named_placeholder_token(rest),
+    );
+    first_recognised(index, first_recognised(ident, others))
+}
+
+pub fn get_placeholder_token(rest: &[u8], named: bool, dialect: Dialect) -> Recognised
+    ensures { λ r. ⌜ r ≡ getPlaceholderToken named dialect (now (rest .entry)) ⌝ }
+{
+    if named {
+        return names_first(rest, dialect);
+    }
+    places_first(rest, dialect)
+}
