@@ -7,3 +7,4 @@ pub mod Join
 pub mod NoIndent
 pub mod Plain
 pub mod Reserved
+pub mod Entries

@@ -1,4 +1,6 @@
 // `get_reserved_word_token` and the reserved phrases of src/tokenizer.rs.
+mod find;
+mod tables;
 
 // What is asked of the last top-level token's alias: which of these it is exactly, if any.
 pub enum TopLevel {
@@ -7,4 +9,10 @@ pub enum TopLevel {
     MergeInto,
     DeleteFrom,
     Other,
+}
+
+// The phrase that stands at the start of a rest: its group's letter and how many bytes it takes.
+pub enum Found {
+    Entry { group: u8, len: usize },
+    Nothing,
 }
