@@ -1,3 +1,4 @@
 -- Laws that the proofs cite.
 pub mod Walking
 pub mod Finding
+pub mod Groups

@@ -1,6 +1,6 @@
 -- All phrases in the order in which they are tried, each with the letter of its group, and as the bytes of a table.
 use Prim.Native.Nat.{ℕ, zero, suc}
-use mathlib.Core.Bool.{Bool, true, false, cond}
+use mathlib.Core.Bool.{Bool, true, false, cond, _||_}
 use mathlib.Core.List.{List, [], _∷_, _++_}
 use lib.Dec.{leb, eqb}
 use lib.ListN.{length, take, getD}
@@ -8,6 +8,12 @@ use Rattle.recognisers.specs.declared.Taken.{Taken}
 use Rattle.recognisers.specs.declared.Taken.the-variants.{Bytes, Fails}
 use Rattle.recognisers.specs.Text.{byte, bytes}
 use Rattle.recognisers.specs.Taking.{Part, endOfWord}
+use Rattle.recognisers.specs.declared.TokenKind.the-variants.{Reserved, ReservedTopLevelNoIndent, ReservedNewlineAfter, Join}
+use Rattle.recognisers.specs.declared.Recognised.{Recognised}
+use Rattle.recognisers.specs.declared.Recognised.the-variants as R
+use Rattle.recognisers.specs.Pieces.{tokenOf}
+use Rattle.reserved.specs.declared.TopLevel.{TopLevel}
+use Rattle.reserved.specs.Reserved.{topLevelToken, newlineToken}
 use Rattle.reserved.specs.declared.Found.{Found}
 use Rattle.reserved.specs.declared.Found.the-variants.{Entry, Nothing}
 use Rattle.reserved.specs.Phrases.{Phrase, phrase, phraseIfExists, walk, optional}
@@ -71,3 +77,14 @@ tableFind (suc passed) (b ∷ table) s = tableFind passed table s
 tableFind zero (group ∷ []) s = Nothing
 tableFind zero (group ∷ n ∷ table) s =
     cond (leb n (length table)) (chosen group (entryEnd group (take n table) s) (tableFind n table s)) Nothing
+
+-- ---- the token that an entry makes
+
+abbrev pub tokenFor : Bool → TopLevel → List ℕ → Found → Recognised
+tokenFor afterBetween last s Nothing = R.Nothing
+tokenFor afterBetween last s (Entry group n) =
+    cond (eqb group (byte "T") || eqb group (byte "D")) (topLevelToken last s (Bytes n))
+    (cond (eqb group (byte "A")) (tokenOf ReservedNewlineAfter (Bytes n))
+    (cond (eqb group (byte "N")) (newlineToken afterBetween s (Bytes n))
+    (cond (eqb group (byte "J")) (tokenOf Join (Bytes n))
+    (cond (eqb group (byte "I")) (tokenOf ReservedTopLevelNoIndent (Bytes n)) (tokenOf Reserved (Bytes n))))))

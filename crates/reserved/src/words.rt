@@ -1,0 +1,211 @@
+// `get_reserved_word_token`, and what EXCEPT, SET, USING and AND ask of earlier tokens.
+use crate::Found;
+use crate::TopLevel;
+use crate::tables::find_phrase;
+use recognisers::Key;
+use recognisers::Piece;
+use recognisers::Recognised;
+use recognisers::Taken;
+use recognisers::TokenKind;
+use recognisers::capital_of;
+use recognisers::stands_at;
+use recognisers::starts_with;
+use recognisers::token_of;
+ghost use mathlib.Core.Path.{_≡_};
+ghost use mathlib.Core.Bool.{not, _&&_, _||_};
+ghost use Prim.Native.Nat.{_≤_};
+ghost use lib.ListN.{length, getD};
+ghost use Rattle.unicode.specs.Ranges.{within};
+ghost use Rattle.recognisers.specs.Text.{bytes};
+ghost use Rattle.recognisers.specs.Taking.{typed, isSpelled, capital};
+ghost use Rattle.recognisers.specs.declared.Taken.the-variants.{Bytes};
+ghost use Rattle.reserved.specs.Reserved.{same, isSelect, isUpdate, takesUsing, topLevelKind, aliasLength, topLevelToken, newlineToken, mayBeReserved, getReservedWordToken};
+ghost use Rattle.reserved.specs.Entries.{entries, findEntry, tokenFor};
+
+// The same bytes, as typed.
+pub fn is_exactly(value: &[u8], word: &[u8]) -> bool
+    ensures { λ r. ⌜ r ≡ same (now (value .entry)) (now (word .entry)) ⌝ }
+{
+    if value.len() == word.len() {
+        return starts_with(value, word);
+    }
+    false
+}
+
+fn is_select(last: TopLevel) -> bool
+    ensures { λ r. ⌜ r ≡ isSelect last ⌝ }
+{
+    match last {
+        TopLevel::Select => true,
+        TopLevel::Update => false,
+        TopLevel::MergeInto => false,
+        TopLevel::DeleteFrom => false,
+        TopLevel::Other => false,
+    }
+}
+
+fn is_update(last: TopLevel) -> bool
+    ensures { λ r. ⌜ r ≡ isUpdate last ⌝ }
+{
+    match last {
+        TopLevel::Select => false,
+        TopLevel::Update => true,
+        TopLevel::MergeInto => false,
+        TopLevel::DeleteFrom => false,
+        TopLevel::Other => false,
+    }
+}
+
+// No USING of its own belongs to the last top-level token.
+fn lacks_using(last: TopLevel) -> bool
+    ensures { λ r. ⌜ r ≡ not (takesUsing last) ⌝ }
+{
+    match last {
+        TopLevel::Select => true,
+        TopLevel::Update => true,
+        TopLevel::MergeInto => false,
+        TopLevel::DeleteFrom => false,
+        TopLevel::Other => true,
+    }
+}
+
+fn is_except(value: &[u8], last: TopLevel) -> bool
+    ensures { λ r. ⌜ r ≡ (same (now (value .entry)) (bytes "EXCEPT") && isSelect last) ⌝ }
+{
+    is_exactly(value, b"EXCEPT") && is_select(last)
+}
+
+fn is_set(value: &[u8], last: TopLevel) -> bool
+    ensures { λ r. ⌜ r ≡ (same (now (value .entry)) (bytes "SET") && isUpdate last) ⌝ }
+{
+    is_exactly(value, b"SET") && is_update(last)
+}
+
+fn is_using(value: &[u8], last: TopLevel) -> bool
+    ensures { λ r. ⌜ r ≡ (same (now (value .entry)) (bytes "USING") && not (takesUsing last)) ⌝ }
+{
+    is_exactly(value, b"USING") && lacks_using(last)
+}
+
+fn top_level_kind(value: &[u8], last: TopLevel) -> TokenKind
+    ensures { λ r. ⌜ r ≡ topLevelKind last (now (value .entry)) ⌝ }
+{
+    if is_except(value, last) {
+        return TokenKind::Reserved;
+    }
+    if is_set(value, last) {
+        return TokenKind::ReservedNewlineAfter;
+    }
+    if is_using(value, last) {
+        return TokenKind::Reserved;
+    }
+    TokenKind::ReservedTopLevel
+}
+
+fn has_short_alias(value: &[u8]) -> bool
+    ensures { λ r. ⌜ r ≡ (isSpelled typed (bytes "CREATE") (now (value .entry)) || isSpelled typed (bytes "SELECT") (now (value .entry))) ⌝ }
+{
+    starts_with(value, b"CREATE") || starts_with(value, b"SELECT")
+}
+
+fn alias_length(value: &[u8]) -> usize
+    ensures { λ r. ⌜ r ≡ aliasLength (now (value .entry)) ⌝ }
+{
+    if has_short_alias(value) {
+        return 6;
+    }
+    value.len()
+}
+
+fn top_level_token(rest: &[u8], n: usize, last: TopLevel) -> Recognised
+    requires { ⌜ n ≤ length (now rest) ⌝ }
+    ensures { λ r. ⌜ r ≡ topLevelToken last (now (rest .entry)) (Bytes n) ⌝ }
+{
+    let value = &rest[..n];
+    let kind = top_level_kind(value, last);
+    let alias = alias_length(value);
+    Recognised::Token(Piece {
+        kind: kind,
+        len: n,
+        alias: alias,
+        key: Key::None,
+    })
+}
+
+fn is_and(value: &[u8], after_between: bool) -> bool
+    ensures { λ r. ⌜ r ≡ (same (now (value .entry)) (bytes "AND") && «after_between») ⌝ }
+{
+    is_exactly(value, b"AND") && after_between
+}
+
+fn newline_token(rest: &[u8], n: usize, after_between: bool) -> Recognised
+    requires { ⌜ n ≤ length (now rest) ⌝ }
+    ensures { λ r. ⌜ r ≡ newlineToken «after_between» (now (rest .entry)) (Bytes n) ⌝ }
+{
+    if is_and(&rest[..n], after_between) {
+        return token_of(TokenKind::Reserved, Taken::Bytes(n));
+    }
+    token_of(TokenKind::ReservedNewline, Taken::Bytes(n))
+}
+
+fn token_for(rest: &[u8], group: u8, n: usize, after_between: bool, last: TopLevel) -> Recognised
+    requires { ⌜ n ≤ length (now rest) ⌝ }
+    ensures { λ r. ⌜ r ≡ tokenFor «after_between» last (now (rest .entry)) (Found.Entry group n) ⌝ }
+{
+    match group {
+        b'T' | b'D' => top_level_token(rest, n, last),
+        b'A' => token_of(TokenKind::ReservedNewlineAfter, Taken::Bytes(n)),
+        b'N' => newline_token(rest, n, after_between),
+        b'J' => token_of(TokenKind::Join, Taken::Bytes(n)),
+        b'I' => token_of(TokenKind::ReservedTopLevelNoIndent, Taken::Bytes(n)),
+        _ => token_of(TokenKind::Reserved, Taken::Bytes(n)),
+    }
+}
+
+fn is_capital(b: u8) -> bool
+    ensures { λ r. ⌜ r ≡ within 65 90 b ⌝ }
+{
+    0x41 <= b && b <= 0x5A
+}
+
+fn starts_with_letter(rest: &[u8]) -> bool
+    ensures { λ r. ⌜ r ≡ within 65 90 (capital (getD (now (rest .entry)) 0 0)) ⌝ }
+{
+    if rest.len() == 0 {
+        return false;
+    }
+    is_capital(capital_of(rest[0]))
+}
+
+// A letter or `$`.
+fn may_be_reserved(rest: &[u8]) -> bool
+    ensures { λ r. ⌜ r ≡ mayBeReserved (now (rest .entry)) ⌝ }
+{
+    starts_with_letter(rest) || stands_at(rest, 0, b'$')
+}
+
+fn reserved_token(rest: &[u8], after_between: bool, last: TopLevel) -> Recognised
+    ensures { λ r. ⌜ r ≡ tokenFor «after_between» last (now (rest .entry)) (findEntry entries (now (rest .entry))) ⌝ }
+{
+    match find_phrase(rest) {
+        Found::Entry { group, len } => token_for(rest, group, len, after_between, last),
+        Found::Nothing => Recognised::Nothing,
+    }
+}
+
+pub fn get_reserved_word_token(
+    rest: &[u8],
+    after_dot: bool,
+    after_between: bool,
+    last: TopLevel,
+) -> Recognised
+    ensures { λ r. ⌜ r ≡ getReservedWordToken «after_dot» «after_between» last (now (rest .entry)) ⌝ }
+{
+    if after_dot {
+        return Recognised::Nothing;
+    }
+    if may_be_reserved(rest) {
+        return reserved_token(rest, after_between, last);
+    }
+    Recognised::Nothing
+}
