@@ -11,7 +11,7 @@ use Rattle.reserved.proofs.words.is_and.Reads as is-and-reads
 
 -- src/words.rt:145:15
 slice-aggregate-is-and : tie.Need-slice-aggregate-is-and
-slice-aggregate-is-and c = sym (length-take-le _ _ (c .before .pre))
+slice-aggregate-is-and c = sym (length-take-le _ _ (c .before .before .pre))
 
 -- src/words.rt:145:8
 is-and-requires : tie.Need-is-and-requires

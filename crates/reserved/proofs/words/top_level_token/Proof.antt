@@ -10,7 +10,7 @@ use Rattle.reserved.proofs.words.top_level_kind.Reads as top-level-kind
 
 -- src/words.rt:124:9
 slice-aggregate-value : tie.Need-slice-aggregate-value
-slice-aggregate-value c = sym (length-take-le _ _ (c .before .pre))
+slice-aggregate-value c = sym (length-take-le _ _ (c .before .before .pre))
 
 -- src/words.rt:125:9
 top-level-kind-requires : tie.Need-top-level-kind-requires
