@@ -8,3 +8,4 @@ pub mod Quotes
 pub mod Blanks
 pub mod Digits
 pub mod PlaceholderLaws
+pub mod Sizes

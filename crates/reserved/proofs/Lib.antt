@@ -2,3 +2,4 @@
 pub mod Walking
 pub mod Finding
 pub mod Groups
+pub mod Lengths

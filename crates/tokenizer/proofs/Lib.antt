@@ -1,2 +1,4 @@
 -- Laws that the proofs cite, and theorems on the definitions.
+pub mod Choosing
+pub mod Placing
 pub mod Worked

@@ -37,15 +37,22 @@ topLevelOf alias =
     (cond (same alias (bytes "UPDATE")) Update
     (cond (same alias (bytes "MERGE INTO")) MergeInto (cond (same alias (bytes "DELETE FROM")) DeleteFrom Other)))
 
--- The memory after a token of this kind, value and alias length. A Join is neither Reserved nor top level here, whatever it
--- is given out as.
+-- is the last Reserved token's value exactly BETWEEN
+unfoldable pub afterBetween : Bool → TokenKind → List ℕ → Bool
+afterBetween before kind value = cond (isKind kind TokenKind.Reserved) (same value (bytes "BETWEEN")) before
+
+-- A Join is neither Reserved nor top level here, whatever it is given out as.
+unfoldable pub lastTopLevel : TopLevel → TokenKind → List ℕ → ℕ → TopLevel
+lastTopLevel before kind value alias = cond (isKind kind TokenKind.ReservedTopLevel) (topLevelOf (take alias value)) before
+
+-- the memory after a token of this kind, value and alias length
 unfoldable pub remember : Memory → TokenKind → List ℕ → ℕ → Memory
 remember memory kind value alias =
     record {
       «type_specifier» = takesTypeSpecifier kind;
       «after_dot» = same value (bytes ".");
-      «after_between» = cond (isKind kind TokenKind.Reserved) (same value (bytes "BETWEEN")) (memory .«after_between»);
-      «top_level» = cond (isKind kind TokenKind.ReservedTopLevel) (topLevelOf (take alias value)) (memory .«top_level»);
+      «after_between» = afterBetween (memory .«after_between») kind value;
+      «top_level» = lastTopLevel (memory .«top_level») kind value alias;
     }
 
 -- whitespace is passed over

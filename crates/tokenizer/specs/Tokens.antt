@@ -2,7 +2,8 @@
 use Prim.Native.Nat.{ℕ, zero, suc, _+_, pred}
 use mathlib.Core.Bool.{Bool, true, false, cond}
 use mathlib.Core.List.{List, [], _∷_}
-use lib.ListN.{take}
+use lib.Dec.{ltb}
+use lib.ListN.{length, take, drop}
 use Rattle.recognisers.specs.declared.Key.{Key}
 use Rattle.recognisers.specs.declared.Key.the-variants.{None, Named, Escaped, ZeroIndexed, OneIndexed}
 use Rattle.recognisers.specs.declared.TokenKind.{TokenKind}
@@ -14,6 +15,9 @@ use Rattle.recognisers.specs.declared.Recognised.the-variants as R
 use Rattle.tokenizer.specs.declared.Memory.{Memory}
 use Rattle.tokenizer.specs.declared.Settings.{Settings}
 use Rattle.tokenizer.specs.declared.Token.{Token}
+use Rattle.tokenizer.specs.declared.Cursor.{Cursor}
+use Rattle.tokenizer.specs.declared.Step.{Step}
+use Rattle.tokenizer.specs.declared.Step.the-variants as S
 use Rattle.tokenizer.specs.Memory.{start, remembered}
 use Rattle.tokenizer.specs.NextToken.{nextPiece}
 
@@ -38,6 +42,20 @@ tokenAt settings at piece =
       alias = piece .alias;
       key = placed at (piece .key);
     }
+
+-- the token at the cursor, and the cursor past it
+abbrev pub stepOf : Settings → List ℕ → Cursor → Recognised → Step
+stepOf settings s cursor (R.Token piece) =
+    S.Token (tokenAt settings (cursor .at) piece)
+    (record {
+      at = cursor .at + piece .len;
+      memory = remembered (cursor .memory) (piece .kind) (take (piece .len) (drop (cursor .at) s)) (piece .alias);
+    })
+stepOf settings s cursor R.Nothing = S.Done
+
+unfoldable pub stepAt : Settings → List ℕ → Cursor → Step
+stepAt settings s cursor =
+    cond (ltb (cursor .at) (length s)) (stepOf settings s cursor (nextPiece settings (cursor .memory) (drop (cursor .at) s))) S.Done
 
 -- the tokens of a rest that starts at a place, where its first `passed` bytes belong to a token that has been read
 unfoldable pub tokensFrom : Settings → Memory → ℕ → ℕ → List ℕ → List Token

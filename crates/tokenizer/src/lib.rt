@@ -4,6 +4,12 @@ use recognisers::Key;
 use recognisers::TokenKind;
 use reserved::TopLevel;
 
+mod choice;
+mod remembering;
+mod stepping;
+
+pub use stepping::next_step;
+
 // What is asked of earlier tokens: may a type specifier stand here, is the last non-whitespace token's value `.`, is the last
 // Reserved token's value BETWEEN, and the last top-level token's alias.
 pub struct Memory {

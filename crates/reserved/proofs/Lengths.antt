@@ -1,0 +1,179 @@
+-- Every reserved word is at least one byte, lies inside the rest, and has its alias inside it.
+-- Assumes nothing.
+use Prim.Native.Nat.{ℕ, zero, suc, _+_, _-_, _≤_, _<_, zero-le, suc-le-suc}
+use native.Mathlib.Nat.{le-refl, le-trans}
+use native.Mathlib.Omega.{arith}
+use mathlib.Core.Path.{_≡_, refl, sym, ap, _∙_}
+use mathlib.Core.List.{List, [], _∷_}
+use mathlib.Core.Bool.{Bool, true, false, cond, not, _&&_, _||_}
+use lib.ListN.{length, drop, take}
+use lib.Dec.{eqb, false≢true}
+use lib.Seq.{length-take-le}
+use Rattle.recognisers.specs.declared.Taken.{Taken}
+use Rattle.recognisers.specs.declared.Taken.the-variants.{Bytes, Fails}
+use Rattle.recognisers.specs.declared.TokenKind.{TokenKind}
+use Rattle.recognisers.specs.declared.TokenKind.the-variants as K
+use Rattle.recognisers.specs.declared.Key.the-variants.{None}
+use Rattle.recognisers.specs.declared.Recognised.{Recognised}
+use Rattle.recognisers.specs.declared.Recognised.the-variants.{Token, Nothing}
+use Rattle.recognisers.specs.Text.{byte, bytes}
+use Rattle.recognisers.specs.Taking.{Part, taken, more, or, done, one, typed, capital, isSpelled, blanks, endOfWord}
+use Rattle.recognisers.specs.Pieces.{piece, tokenOf, alt}
+use Rattle.recognisers.proofs.Inside.{Inside, or-inside, end-of-word-inside}
+use Rattle.recognisers.proofs.Sizes.{Least, or-least, one-some, Sized, alt-sized, Takes, or-takes, fails-takes, takes-sized}
+use Rattle.reserved.specs.declared.TopLevel.{TopLevel}
+use Rattle.reserved.specs.Phrases.{Phrase, phrase, phraseIfExists, walk, optional, phraseEnd, firstPhrase, each}
+use Rattle.reserved.specs.Entries.{ifExists}
+use Rattle.reserved.specs.TopLevel.{creatable, alterableOrDroppable, eachDropped, topLevelPhrases}
+use Rattle.reserved.specs.NewlineAfter.{newlineAfterPhrases}
+use Rattle.reserved.specs.Newline.{newlinePhrases}
+use Rattle.reserved.specs.Join.{joinPhrases}
+use Rattle.reserved.specs.NoIndent.{noIndentPhrases}
+use Rattle.reserved.specs.Plain.{plainTwoPhrases, plainA, plainB, plainC, plainD, plainE, plainF, plainG, plainH, plainI, plainK, plainL, plainM, plainN, plainO, plainP, plainQ, plainR, plainS, plainT, plainU, plainV, plainW, plainY, plainOnePhrases}
+use Rattle.reserved.specs.Reserved.{same, topLevelKind, aliasLength, topLevelToken, newlineToken, getTopLevelReservedToken, getNewlineAfterReservedToken, getNewlineReservedToken, getJoinToken, getTopLevelReservedTokenNoIndent, getPlainReservedToken, mayBeReserved, getReservedWordToken}
+use Rattle.reserved.proofs.Walking.{walk-inside, exists-inside}
+
+-- a phrase begins with a byte that is no space
+begins : List ℕ → Bool
+begins [] = false
+begins (p ∷ words) = not (eqb p (byte " "))
+
+wordsOf : Phrase → List ℕ
+wordsOf (phrase words) = words
+wordsOf (phraseIfExists words) = words
+
+allBegin : List Phrase → Bool
+allBegin [] = true
+allBegin (p ∷ phrases) = begins (wordsOf p) && allBegin phrases
+
+both-left : (a b : Bool) → (a && b) ≡ true → a ≡ true
+both-left true b e = refl
+both-left false b e = absurd (false≢true e)
+
+both-right : (a b : Bool) → (a && b) ≡ true → b ≡ true
+both-right true b e = e
+both-right false b e = absurd (false≢true e)
+
+walk-some : (words : List ℕ) (then : Part) → begins words ≡ true → (s : List ℕ) → Least 1 (walk words then s)
+unfolding walk
+walk-some [] then e s = absurd (false≢true e)
+walk-some (p ∷ words) then e s = go (eqb p 32) e
+  where
+    go : (t : Bool) → not t ≡ true → Least 1 (cond t (blanks (walk words then) s) (one (λ b. eqb (capital b) p) (walk words then) s))
+    go true q = absurd (false≢true q)
+    go false q = one-some (λ b. eqb (capital b) p) (walk words then) s
+
+walk-takes : (words : List ℕ) (then : Part) → Inside then → begins words ≡ true → (s : List ℕ) → Takes 1 s (walk words then s)
+walk-takes words then h e s = record { least = walk-some words then e s; inside = walk-inside words then h s }
+
+phrase-takes : (p : Phrase) → begins (wordsOf p) ≡ true → (s : List ℕ) → Takes 1 s (phraseEnd p s)
+unfolding phraseEnd ifExists
+phrase-takes (phrase words) e s = walk-takes words endOfWord end-of-word-inside e s
+phrase-takes (phraseIfExists words) e s = walk-takes words ifExists exists-inside e s
+
+pub first-takes : (phrases : List Phrase) → allBegin phrases ≡ true → (s : List ℕ) → Takes 1 s (firstPhrase phrases s)
+unfolding firstPhrase
+first-takes [] e s = fails-takes 1 s
+first-takes (p ∷ phrases) e s =
+    or-takes 1 s (phraseEnd p s) (firstPhrase phrases s) (phrase-takes p (both-left (begins (wordsOf p)) (allBegin phrases) e) s)
+    (first-takes phrases (both-right (begins (wordsOf p)) (allBegin phrases) e) s)
+
+-- ---- the alias
+
+spelled-fits : (form : ℕ → ℕ) (w v : List ℕ) → isSpelled form w v ≡ true → length w ≤ length v
+unfolding isSpelled
+spelled-fits form [] v e = zero-le
+spelled-fits form (x ∷ w) [] e = absurd (false≢true e)
+spelled-fits form (x ∷ w) (b ∷ v) e = suc-le-suc (spelled-fits form w v (both-right (eqb (form b) x) (isSpelled form w v) e))
+
+alias-fits : (v : List ℕ) → aliasLength v ≤ length v
+unfolding aliasLength
+alias-fits v = go (isSpelled typed (bytes "CREATE") v) (isSpelled typed (bytes "SELECT") v) refl refl
+  where
+    go : (a b : Bool) → isSpelled typed (bytes "CREATE") v ≡ a → isSpelled typed (bytes "SELECT") v ≡ b → cond (a || b) 6 (length v) ≤ length v
+    go true b e f = spelled-fits typed (bytes "CREATE") v e
+    go false true e f = spelled-fits typed (bytes "SELECT") v f
+    go false false e f = le-refl (length v)
+
+top-level-sized : (last : TopLevel) (s : List ℕ) (t : Taken) → Takes 1 s t → Sized s (topLevelToken last s t)
+top-level-sized last s (Bytes n) h =
+    let a = alias-fits (take n s) in
+    let l : length (take n s) ≡ n = length-take-le n s (h .inside) in
+    record { some = h .least; inside = h .inside; alias-inside = rw l at a; key-inside = zero-le }
+top-level-sized last s Fails h = tt
+
+newline-sized : (between : Bool) (s : List ℕ) (t : Taken) → Takes 1 s t → Sized s (newlineToken between s t)
+newline-sized between s (Bytes n) h = record { some = h .least; inside = h .inside; alias-inside = le-refl n; key-inside = zero-le }
+newline-sized between s Fails h = tt
+
+-- ---- the six groups
+
+top-begins : allBegin topLevelPhrases ≡ true
+unfolding topLevelPhrases creatable alterableOrDroppable eachDropped each
+top-begins = refl
+
+after-begins : allBegin newlineAfterPhrases ≡ true
+unfolding newlineAfterPhrases
+after-begins = refl
+
+newline-begins : allBegin newlinePhrases ≡ true
+unfolding newlinePhrases
+newline-begins = refl
+
+join-begins : allBegin joinPhrases ≡ true
+unfolding joinPhrases
+join-begins = refl
+
+no-indent-begins : allBegin noIndentPhrases ≡ true
+unfolding noIndentPhrases
+no-indent-begins = refl
+
+two-begins : allBegin plainTwoPhrases ≡ true
+unfolding plainTwoPhrases
+two-begins = refl
+
+one-begins : allBegin plainOnePhrases ≡ true
+unfolding plainOnePhrases plainA plainB plainC plainD plainE plainF plainG plainH plainI plainK plainL plainM plainN plainO plainP plainQ plainR plainS plainT plainU plainV plainW plainY
+one-begins = refl
+
+pub reserved-sized : (dot between : Bool) (last : TopLevel) (s : List ℕ) → Sized s (getReservedWordToken dot between last s)
+unfolding getReservedWordToken getTopLevelReservedToken getNewlineAfterReservedToken getNewlineReservedToken getJoinToken getTopLevelReservedTokenNoIndent getPlainReservedToken
+reserved-sized dot between last s = go (dot || not (mayBeReserved s))
+  where
+    top : Recognised
+    top = topLevelToken last s (firstPhrase topLevelPhrases s)
+
+    after : Recognised
+    after = tokenOf K.ReservedNewlineAfter (firstPhrase newlineAfterPhrases s)
+
+    newline : Recognised
+    newline = newlineToken between s (firstPhrase newlinePhrases s)
+
+    join : Recognised
+    join = tokenOf K.Join (firstPhrase joinPhrases s)
+
+    noIndent : Recognised
+    noIndent = tokenOf K.ReservedTopLevelNoIndent (firstPhrase noIndentPhrases s)
+
+    two : Recognised
+    two = tokenOf K.Reserved (firstPhrase plainTwoPhrases s)
+
+    plain : Recognised
+    plain = tokenOf K.Reserved (firstPhrase plainOnePhrases s)
+
+    go : (t : Bool) → Sized s (cond t Nothing (alt top (alt after (alt newline (alt join (alt noIndent (alt two plain)))))))
+    go true = tt
+    go false =
+        alt-sized s top (alt after (alt newline (alt join (alt noIndent (alt two plain)))))
+        (top-level-sized last s (firstPhrase topLevelPhrases s) (first-takes topLevelPhrases top-begins s))
+        (alt-sized s after (alt newline (alt join (alt noIndent (alt two plain))))
+        (takes-sized s K.ReservedNewlineAfter (firstPhrase newlineAfterPhrases s) (first-takes newlineAfterPhrases after-begins s))
+        (alt-sized s newline (alt join (alt noIndent (alt two plain)))
+        (newline-sized between s (firstPhrase newlinePhrases s) (first-takes newlinePhrases newline-begins s))
+        (alt-sized s join (alt noIndent (alt two plain))
+        (takes-sized s K.Join (firstPhrase joinPhrases s) (first-takes joinPhrases join-begins s))
+        (alt-sized s noIndent (alt two plain)
+        (takes-sized s K.ReservedTopLevelNoIndent (firstPhrase noIndentPhrases s) (first-takes noIndentPhrases no-indent-begins s))
+        (alt-sized s two plain
+        (takes-sized s K.Reserved (firstPhrase plainTwoPhrases s) (first-takes plainTwoPhrases two-begins s))
+        (takes-sized s K.Reserved (firstPhrase plainOnePhrases s) (first-takes plainOnePhrases one-begins s)))))))

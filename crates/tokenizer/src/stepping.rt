@@ -1,0 +1,81 @@
+// One step of reading.
+use crate::Cursor;
+use crate::Settings;
+use crate::Step;
+use crate::Token;
+use crate::remembering::is_kind;
+use crate::remembering::remember_piece;
+use crate::choice::next_piece;
+use recognisers::Key;
+use recognisers::Recognised;
+use recognisers::TokenKind;
+ghost use mathlib.Core.Path.{_≡_};
+ghost use Prim.Native.Nat.{_+_, _^_, _<_};
+ghost use Rattle.recognisers.specs.Pieces.{keyStart};
+ghost use Rattle.tokenizer.specs.Tokens.{givenOut, placed, stepAt};
+
+// A Join is given out as top level or as a newline word.
+fn given_out(joins: bool, kind: TokenKind) -> TokenKind
+    ensures { λ r. ⌜ r ≡ givenOut joins kind ⌝ }
+{
+    if is_kind(kind, TokenKind::Join) {
+        if joins {
+            return TokenKind::ReservedTopLevel;
+        }
+        return TokenKind::ReservedNewline;
+    }
+    kind
+}
+
+// A key's places, counted from the statement's start.
+fn place_key(at: usize, key: Key) -> Key
+    requires { ⌜ at + keyStart key < 2 ^ 64 ⌝ }
+    ensures { λ r. ⌜ r ≡ placed at key ⌝ }
+{
+    match key {
+        Key::None => Key::None,
+        Key::Named { start, len } => Key::Named {
+            start: at + start,
+            len: len,
+        },
+        Key::Escaped { start, len } => Key::Escaped {
+            start: at + start,
+            len: len,
+        },
+        Key::ZeroIndexed(n) => Key::ZeroIndexed(n),
+        Key::OneIndexed(n) => Key::OneIndexed(n),
+    }
+}
+
+pub fn next_step(statement: &[u8], settings: Settings, cursor: Cursor) -> Step
+    ensures { λ r. ⌜ r ≡ stepAt settings (now (statement .entry)) cursor ⌝ }
+{
+    let at = cursor.at;
+    if statement.len() <= at {
+        return Step::Done;
+    }
+    let rest = &statement[at..];
+    let memory = cursor.memory;
+    let Recognised::Token(piece) = next_piece(rest, settings, memory) else {
+        return Step::Done;
+    };
+    let kind = piece.kind;
+    let len = piece.len;
+    let alias = piece.alias;
+    let key = piece.key;
+    let token = Token {
+        kind: given_out(settings.joins, kind),
+        start: at,
+        len: len,
+        alias: alias,
+        key: place_key(at, key),
+    };
+    let next = remember_piece(memory, kind, &rest[..len], alias);
+    Step::Token(
+        token,
+        Cursor {
+            at: at + len,
+            memory: next,
+        },
+    )
+}
