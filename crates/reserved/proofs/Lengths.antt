@@ -5,9 +5,9 @@ use native.Mathlib.Nat.{le-refl, le-trans}
 use native.Mathlib.Omega.{arith}
 use mathlib.Core.Path.{_≡_, refl, sym, ap, _∙_}
 use mathlib.Core.List.{List, [], _∷_}
-use mathlib.Core.Bool.{Bool, true, false, cond, not, _&&_, _||_}
+use mathlib.Core.Bool.{Bool, true, false, cond, not, _&&_, _||_, false≢true}
 use lib.ListN.{length, drop, take}
-use lib.Dec.{eqb, false≢true}
+use lib.Dec.{eqb}
 use lib.Seq.{length-take-le}
 use Rattle.recognisers.specs.declared.Taken.{Taken}
 use Rattle.recognisers.specs.declared.Taken.the-variants.{Bytes, Fails}
@@ -34,15 +34,15 @@ use Rattle.reserved.specs.Reserved.{same, topLevelKind, aliasLength, top
 use Rattle.reserved.proofs.Walking.{walk-inside, exists-inside}
 
 -- a phrase begins with a byte that is no space
-begins : List ℕ → Bool
+abbrev begins : List ℕ → Bool
 begins [] = false
 begins (p ∷ words) = not (eqb p (byte " "))
 
-wordsOf : Phrase → List ℕ
+abbrev wordsOf : Phrase → List ℕ
 wordsOf (phrase words) = words
 wordsOf (phraseIfExists words) = words
 
-allBegin : List Phrase → Bool
+abbrev allBegin : List Phrase → Bool
 allBegin [] = true
 allBegin (p ∷ phrases) = begins (wordsOf p) && allBegin phrases
 
@@ -71,7 +71,7 @@ unfolding phraseEnd ifExists
 phrase-takes (phrase words) e s = walk-takes words endOfWord end-of-word-inside e s
 phrase-takes (phraseIfExists words) e s = walk-takes words ifExists exists-inside e s
 
-pub first-takes : (phrases : List Phrase) → allBegin phrases ≡ true → (s : List ℕ) → Takes 1 s (firstPhrase phrases s)
+first-takes : (phrases : List Phrase) → allBegin phrases ≡ true → (s : List ℕ) → Takes 1 s (firstPhrase phrases s)
 unfolding firstPhrase
 first-takes [] e s = fails-takes 1 s
 first-takes (p ∷ phrases) e s =
@@ -136,44 +136,33 @@ one-begins : allBegin plainOnePhrases ≡ true
 unfolding plainOnePhrases plainA plainB plainC plainD plainE plainF plainG plainH plainI plainK plainL plainM plainN plainO plainP plainQ plainR plainS plainT plainU plainV plainW plainY
 one-begins = refl
 
+module _ (s : List ℕ) (a b c d e f g : Recognised) where
+  groups-sized : Sized s a → Sized s b → Sized s c → Sized s d → Sized s e → Sized s f → Sized s g → Sized s (alt a (alt b (alt c (alt d (alt e (alt f g))))))
+  groups-sized h i j k l m n =
+      alt-sized s a (alt b (alt c (alt d (alt e (alt f g))))) h
+      (alt-sized s b (alt c (alt d (alt e (alt f g)))) i
+      (alt-sized s c (alt d (alt e (alt f g))) j (alt-sized s d (alt e (alt f g)) k (alt-sized s e (alt f g) l (alt-sized s f g m n)))))
+
 pub reserved-sized : (dot between : Bool) (last : TopLevel) (s : List ℕ) → Sized s (getReservedWordToken dot between last s)
 unfolding getReservedWordToken getTopLevelReservedToken getNewlineAfterReservedToken getNewlineReservedToken getJoinToken getTopLevelReservedTokenNoIndent getPlainReservedToken
-reserved-sized dot between last s = go (dot || not (mayBeReserved s))
+reserved-sized dot between last s =
+    go (dot || not (mayBeReserved s)) _
+    (groups-sized s
+    (topLevelToken last s (firstPhrase topLevelPhrases s))
+    (tokenOf K.ReservedNewlineAfter (firstPhrase newlineAfterPhrases s))
+    (newlineToken between s (firstPhrase newlinePhrases s))
+    (tokenOf K.Join (firstPhrase joinPhrases s))
+    (tokenOf K.ReservedTopLevelNoIndent (firstPhrase noIndentPhrases s))
+    (tokenOf K.Reserved (firstPhrase plainTwoPhrases s))
+    (tokenOf K.Reserved (firstPhrase plainOnePhrases s))
+    (top-level-sized last s (firstPhrase topLevelPhrases s) (first-takes topLevelPhrases top-begins s))
+    (takes-sized s K.ReservedNewlineAfter (firstPhrase newlineAfterPhrases s) (first-takes newlineAfterPhrases after-begins s))
+    (newline-sized between s (firstPhrase newlinePhrases s) (first-takes newlinePhrases newline-begins s))
+    (takes-sized s K.Join (firstPhrase joinPhrases s) (first-takes joinPhrases join-begins s))
+    (takes-sized s K.ReservedTopLevelNoIndent (firstPhrase noIndentPhrases s) (first-takes noIndentPhrases no-indent-begins s))
+    (takes-sized s K.Reserved (firstPhrase plainTwoPhrases s) (first-takes plainTwoPhrases two-begins s))
+    (takes-sized s K.Reserved (firstPhrase plainOnePhrases s) (first-takes plainOnePhrases one-begins s)))
   where
-    top : Recognised
-    top = topLevelToken last s (firstPhrase topLevelPhrases s)
-
-    after : Recognised
-    after = tokenOf K.ReservedNewlineAfter (firstPhrase newlineAfterPhrases s)
-
-    newline : Recognised
-    newline = newlineToken between s (firstPhrase newlinePhrases s)
-
-    join : Recognised
-    join = tokenOf K.Join (firstPhrase joinPhrases s)
-
-    noIndent : Recognised
-    noIndent = tokenOf K.ReservedTopLevelNoIndent (firstPhrase noIndentPhrases s)
-
-    two : Recognised
-    two = tokenOf K.Reserved (firstPhrase plainTwoPhrases s)
-
-    plain : Recognised
-    plain = tokenOf K.Reserved (firstPhrase plainOnePhrases s)
-
-    go : (t : Bool) → Sized s (cond t Nothing (alt top (alt after (alt newline (alt join (alt noIndent (alt two plain)))))))
-    go true = tt
-    go false =
-        alt-sized s top (alt after (alt newline (alt join (alt noIndent (alt two plain)))))
-        (top-level-sized last s (firstPhrase topLevelPhrases s) (first-takes topLevelPhrases top-begins s))
-        (alt-sized s after (alt newline (alt join (alt noIndent (alt two plain))))
-        (takes-sized s K.ReservedNewlineAfter (firstPhrase newlineAfterPhrases s) (first-takes newlineAfterPhrases after-begins s))
-        (alt-sized s newline (alt join (alt noIndent (alt two plain)))
-        (newline-sized between s (firstPhrase newlinePhrases s) (first-takes newlinePhrases newline-begins s))
-        (alt-sized s join (alt noIndent (alt two plain))
-        (takes-sized s K.Join (firstPhrase joinPhrases s) (first-takes joinPhrases join-begins s))
-        (alt-sized s noIndent (alt two plain)
-        (takes-sized s K.ReservedTopLevelNoIndent (firstPhrase noIndentPhrases s) (first-takes noIndentPhrases no-indent-begins s))
-        (alt-sized s two plain
-        (takes-sized s K.Reserved (firstPhrase plainTwoPhrases s) (first-takes plainTwoPhrases two-begins s))
-        (takes-sized s K.Reserved (firstPhrase plainOnePhrases s) (first-takes plainOnePhrases one-begins s)))))))
+    go : (t : Bool) (r : Recognised) → Sized s r → Sized s (cond t Nothing r)
+    go true r h = tt
+    go false r h = h

@@ -1,4 +1,5 @@
 -- Laws that the proofs cite, and theorems on the definitions.
 pub mod Choosing
 pub mod Placing
+pub mod Sizing
 pub mod Worked

@@ -13,37 +13,37 @@ use Rattle.recognisers.specs.declared.TokenKind.{TokenKind}
 use Rattle.recognisers.specs.declared.TokenKind.the-variants as K
 use Rattle.recognisers.specs.Kinds.{isKind}
 use Rattle.recognisers.specs.Text.{byte, bytes}
+
 use Rattle.tokenizer.specs.declared.Settings.{Settings}
 use Rattle.tokenizer.specs.declared.Token.{Token}
-use Rattle.tokenizer.specs.Tokens.{tokens}
 use Rattle.unicode.specs.Alphabetic.{alphabetic}
-use Rattle.unicode.specs.Character.{isContinuation, continuations, continued, firstBits, withBits, characterLength, codePoint}
+use Rattle.unicode.specs.Character.{isContinuation, continuations, continued, firstBits, withBits, characterLength, codePoint, character}
 use Rattle.unicode.specs.Classes.{isWhitespace, isAlphabetic, isNumeric, isMark, isPunctuationConnector, isAlphanumeric, isWordCharacter, isPlaceholderNameCharacter}
 use Rattle.unicode.specs.Connector.{connector}
 use Rattle.unicode.specs.Mark.{mark}
 use Rattle.unicode.specs.Numeric.{numeric}
-use Rattle.unicode.specs.Ranges.{within, inRanges}
-use Rattle.unicode.specs.Runs.{run}
+use Rattle.unicode.specs.Ranges.{within, inRanges, ordered, endsOf, inEnds, ascending}
+use Rattle.unicode.specs.Runs.{inClass, run}
 use Rattle.unicode.specs.WhiteSpace.{whiteSpace}
 use Rattle.recognisers.specs.Comment.{tillLineEnding, throughBlockEnd, getCommentToken}
-use Rattle.recognisers.specs.Number.{decimalNumber, exponent, scientificNotation, unsigned, getNumberToken}
+use Rattle.recognisers.specs.Number.{decimalNumber, signedDigits, exponent, scientificNotation, unsigned, getNumberToken}
 use Rattle.recognisers.specs.Parens.{getOpenParenToken, getCloseParenToken}
-use Rattle.recognisers.specs.Placeholder.{numberFrom, indexedKey, getIndexedPlaceholderToken, placeholderName, getIdentNamedPlaceholderToken, throughBrace, getBracedNamedPlaceholderToken, hasEscape, stringKey, getStringNamedPlaceholderToken, getPlaceholderToken}
-use Rattle.recognisers.specs.Strings.{contains, takeTillEscaping, stringPart, getStringToken, placeholderStringPart}
-use Rattle.recognisers.specs.Taking.{one, literal, capital, caseless, blanks, endOfWord, count, digit1, digit0}
+use Rattle.recognisers.specs.Placeholder.{numberFrom, indexedKey, indexedPart, getIndexedPlaceholderToken, placeholderName, identPart, getIdentNamedPlaceholderToken, throughBrace, bracedText, bracedPart, getBracedNamedPlaceholderToken, hasEscape, stringKey, stringNamedPart, getStringNamedPlaceholderToken, getPlaceholderToken}
+use Rattle.recognisers.specs.Strings.{takeTillEscaping, closedBy, hexPart, quotedPart, stringPart, getStringToken, placeholderQuotedPart, placeholderStringPart}
+use Rattle.recognisers.specs.Taking.{one, spelled, isSpelled, typed, capital, blanks, endOfWord, count, digit1, digit0, contains, startsAmong, startsWith}
 use Rattle.recognisers.specs.TypeSpecifier.{getTypeSpecifierToken}
 use Rattle.recognisers.specs.Words.{getWhitespaceToken, isOperator, getOperatorToken, getWordToken, getAnyOtherChar}
 use Rattle.reserved.specs.Join.{joinPhrases}
 use Rattle.reserved.specs.Newline.{newlinePhrases}
 use Rattle.reserved.specs.NewlineAfter.{newlineAfterPhrases}
 use Rattle.reserved.specs.NoIndent.{noIndentPhrases}
-use Rattle.reserved.specs.Phrases.{walk, optional, phraseEnd, firstPhrase, each}
+use Rattle.reserved.specs.Phrases.{wordStep, walk, optional, phraseEnd, firstPhrase, each}
 use Rattle.reserved.specs.Plain.{plainTwoPhrases, plainA, plainB, plainC, plainD, plainE, plainF, plainG, plainH, plainI, plainK, plainL, plainM, plainN, plainO, plainP, plainQ, plainR, plainS, plainT, plainU, plainV, plainW, plainY, plainOnePhrases}
-use Rattle.reserved.specs.Reserved.{same, isPrefix, topLevelKind, aliasLength, getTopLevelReservedToken, getNewlineAfterReservedToken, getNewlineReservedToken, getJoinToken, getTopLevelReservedTokenNoIndent, getPlainReservedToken, mayBeReserved, getReservedWordToken}
+use Rattle.reserved.specs.Reserved.{same, topLevelKind, aliasLength, getTopLevelReservedToken, getNewlineAfterReservedToken, getNewlineReservedToken, getJoinToken, getTopLevelReservedTokenNoIndent, getPlainReservedToken, mayBeReserved, getReservedWordToken}
 use Rattle.reserved.specs.TopLevel.{creatable, alterableOrDroppable, eachDropped, topLevelPhrases}
-use Rattle.tokenizer.specs.Memory.{takesTypeSpecifier, topLevelOf, remember, remembered}
-use Rattle.tokenizer.specs.NextToken.{getNextToken, nextPiece}
-use Rattle.tokenizer.specs.Tokens.{givenOut, tokensFrom}
+use Rattle.tokenizer.specs.Memory.{takesTypeSpecifier, topLevelOf, afterBetween, lastTopLevel, remember, remembered}
+use Rattle.tokenizer.specs.NextToken.{fromWord, fromPlaceholder, fromOperator, fromReserved, fromNumber, fromCloseParen, fromOpenParen, fromString, fromTypeSpecifier, getNextToken, nextPiece}
+use Rattle.tokenizer.specs.Tokens.{givenOut, stepAt, tokensFrom, tokens}
 
 abbrev pub Shown : Type 0
 Shown = List (TokenKind × ℕ × Key)
@@ -83,5 +83,5 @@ searches =
     ∷ []
 
 pub worked : map (λ w. shown (tokens (w .0) (w .1))) searches ≡ map (λ w. w .2) searches
-unfolding shown settings generic plain searches alphabetic isContinuation continuations continued firstBits withBits characterLength codePoint isWhitespace isAlphabetic isNumeric isMark isPunctuationConnector isAlphanumeric isWordCharacter isPlaceholderNameCharacter connector mark numeric within inRanges run whiteSpace tillLineEnding throughBlockEnd getCommentToken decimalNumber exponent scientificNotation unsigned getNumberToken getOpenParenToken getCloseParenToken numberFrom indexedKey getIndexedPlaceholderToken placeholderName getIdentNamedPlaceholderToken throughBrace getBracedNamedPlaceholderToken hasEscape stringKey getStringNamedPlaceholderToken getPlaceholderToken contains takeTillEscaping stringPart getStringToken placeholderStringPart one literal capital caseless blanks endOfWord count digit1 digit0 getTypeSpecifierToken getWhitespaceToken isOperator getOperatorToken getWordToken getAnyOtherChar joinPhrases newlinePhrases newlineAfterPhrases noIndentPhrases walk optional phraseEnd firstPhrase each plainTwoPhrases plainA plainB plainC plainD plainE plainF plainG plainH plainI plainK plainL plainM plainN plainO plainP plainQ plainR plainS plainT plainU plainV plainW plainY plainOnePhrases same isPrefix topLevelKind aliasLength getTopLevelReservedToken getNewlineAfterReservedToken getNewlineReservedToken getJoinToken getTopLevelReservedTokenNoIndent getPlainReservedToken mayBeReserved getReservedWordToken creatable alterableOrDroppable eachDropped topLevelPhrases takesTypeSpecifier topLevelOf remember remembered getNextToken nextPiece givenOut tokensFrom tokens
+unfolding alphabetic isContinuation continuations continued firstBits withBits characterLength codePoint character isWhitespace isAlphabetic isNumeric isMark isPunctuationConnector isAlphanumeric isWordCharacter isPlaceholderNameCharacter connector mark numeric within inRanges ordered endsOf inEnds ascending inClass run whiteSpace tillLineEnding throughBlockEnd getCommentToken decimalNumber signedDigits exponent scientificNotation unsigned getNumberToken getOpenParenToken getCloseParenToken numberFrom indexedKey indexedPart getIndexedPlaceholderToken placeholderName identPart getIdentNamedPlaceholderToken throughBrace bracedText bracedPart getBracedNamedPlaceholderToken hasEscape stringKey stringNamedPart getStringNamedPlaceholderToken getPlaceholderToken takeTillEscaping closedBy hexPart quotedPart stringPart getStringToken placeholderQuotedPart placeholderStringPart one spelled isSpelled typed capital blanks endOfWord count digit1 digit0 contains startsAmong startsWith getTypeSpecifierToken getWhitespaceToken isOperator getOperatorToken getWordToken getAnyOtherChar joinPhrases newlinePhrases newlineAfterPhrases noIndentPhrases wordStep walk optional phraseEnd firstPhrase each plainTwoPhrases plainA plainB plainC plainD plainE plainF plainG plainH plainI plainK plainL plainM plainN plainO plainP plainQ plainR plainS plainT plainU plainV plainW plainY plainOnePhrases same topLevelKind aliasLength getTopLevelReservedToken getNewlineAfterReservedToken getNewlineReservedToken getJoinToken getTopLevelReservedTokenNoIndent getPlainReservedToken mayBeReserved getReservedWordToken creatable alterableOrDroppable eachDropped topLevelPhrases takesTypeSpecifier topLevelOf afterBetween lastTopLevel remember remembered fromWord fromPlaceholder fromOperator fromReserved fromNumber fromCloseParen fromOpenParen fromString fromTypeSpecifier getNextToken nextPiece givenOut stepAt tokensFrom tokens shown settings generic plain searches
 worked = refl

@@ -1,3 +1,6 @@
+use mathlib.Core.Path.{sym}
+use lib.Seq.{length-take-le}
+use Rattle.tokenizer.proofs.Sizing.{len-inside, alias-inside, key-fits, len-fits, step-token, step-past, step-nothing}
 use borrow.Author.Needs.{needs}
 use Rattle.tokenizer.proofs.stepping.next_step.Statement.{statement}
 use Rattle.tokenizer.proofs.stepping.next_step.Tie as tie
@@ -10,7 +13,7 @@ use Rattle.tokenizer.proofs.stepping.place_key.Reads as place-key-reads
 
 -- src/stepping.rt:54:9
 returns : tie.Need-returns
-returns c = search needs
+returns c = search step-past
 
 -- src/stepping.rt:56:16
 sub-rest : tie.Need-sub-rest
@@ -38,7 +41,7 @@ enum-told c = search needs
 
 -- src/stepping.rt:59:9
 returns-2 : tie.Need-returns-2
-returns-2 c = search needs
+returns-2 c = search step-nothing
 
 -- src/stepping.rt:66:15
 given-out-requires : tie.Need-given-out-requires
@@ -46,23 +49,23 @@ given-out-requires c κs = search needs
 
 -- src/stepping.rt:70:14
 place-key-requires : tie.Need-place-key-requires
-place-key-requires c κs = search needs
+place-key-requires c κs = search key-fits
 
 -- src/stepping.rt:72:45
 slice-aggregate-remember-piece : tie.Need-slice-aggregate-remember-piece
-slice-aggregate-remember-piece c = search needs
+slice-aggregate-remember-piece c = sym (length-take-le _ _ (search len-inside))
 
 -- src/stepping.rt:72:9
 remember-piece-requires : tie.Need-remember-piece-requires
-remember-piece-requires c κs = search needs
+remember-piece-requires c κs = search alias-inside
 
 -- src/stepping.rt:76:17
 add-t14 : tie.Need-add-t14
-add-t14 c = search needs
+add-t14 c = search len-fits
 
 -- src/stepping.rt:49:1
 returns-3 : tie.Need-returns-3
-returns-3 c = search needs
+returns-3 c = search step-token
 
 pub next-step-spec : {M : Type 1} → statement M
 next-step-spec =
