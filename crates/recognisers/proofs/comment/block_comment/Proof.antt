@@ -1,46 +1,33 @@
+use borrow.Author.Needs.{needs}
 use Rattle.recognisers.specs.Taking.{typed}
 use Rattle.recognisers.specs.Comment.{throughBlockEnd}
 use Rattle.recognisers.proofs.Spelling.{word-fits, word-then, word-not}
 use Rattle.recognisers.proofs.Inside.{fits-more}
 use Rattle.recognisers.proofs.Comments.{block-inside}
-use borrow.Author.Needs.{needs}
 use Rattle.recognisers.proofs.comment.block_comment.Statement.{statement}
 use Rattle.recognisers.proofs.comment.block_comment.Tie as tie
-use Rattle.recognisers.proofs.comment.block_comment.Reads as reads
-use Rattle.recognisers.proofs.comment.block_comment.Lts as lts
-use Rattle.recognisers.proofs.comment.through_block_end.Reads as through-block-end-reads
-use Rattle.recognisers.proofs.scan.n_more.Reads as n-more-reads
-use Rattle.recognisers.proofs.scan.starts_with.Reads as starts-with-reads
 
--- src/comment.rt:64:8
 starts-with-requires : tie.Need-starts-with-requires
 starts-with-requires c κs = search needs
 
--- src/comment.rt:66:44
 sub-through-block-end : tie.Need-sub-through-block-end
 sub-through-block-end c = search (word-fits typed throughBlockEnd)
 
--- src/comment.rt:66:44
 part-through-block-end-start : tie.Need-part-through-block-end-start
 part-through-block-end-start c = search (word-fits typed throughBlockEnd)
 
--- src/comment.rt:66:44
 part-through-block-end-end : tie.Need-part-through-block-end-end
 part-through-block-end-end c = search needs
 
--- src/comment.rt:66:26
 through-block-end-requires : tie.Need-through-block-end-requires
 through-block-end-requires c κs = search needs
 
--- src/comment.rt:66:9
 n-more-requires : tie.Need-n-more-requires
 n-more-requires c κs = search (fits-more throughBlockEnd block-inside, word-fits typed throughBlockEnd)
 
--- src/comment.rt:66:9
 returns : tie.Need-returns
 returns c = search (word-then typed throughBlockEnd)
 
--- src/comment.rt:61:1
 returns-2 : tie.Need-returns-2
 returns-2 c = search (word-not typed throughBlockEnd)
 

@@ -1,13 +1,10 @@
 use Prim.Native.Nat.{_-_}
 use lib.ListN.{length}
+use borrow.Author.Needs.{needs}
 use Rattle.recognisers.specs.Comment.{tillLineEnding}
 use Rattle.recognisers.proofs.Comments.{PassedAt, passed-start, line-feed, carriage-return, lone-return, line-on, line-end}
-use borrow.Author.Needs.{needs}
 use Rattle.recognisers.proofs.comment.till_line_ending.Statement.{statement}
 use Rattle.recognisers.proofs.comment.till_line_ending.Tie as tie
-use Rattle.recognisers.proofs.comment.till_line_ending.Reads as reads
-use Rattle.recognisers.proofs.comment.till_line_ending.Lts as lts
-use Rattle.recognisers.proofs.scan.stands_at.Reads as stands-at-reads
 
 abbrev Inv-loop : tie.InvT-loop
 Inv-loop rest i₀ i = PassedAt tillLineEnding rest i
@@ -15,47 +12,36 @@ Inv-loop rest i₀ i = PassedAt tillLineEnding rest i
 abbrev μ-loop : tie.MeasureT-loop
 μ-loop rest i₀ i = length rest - i
 
--- src/comment.rt:20:5
 loop-holds : tie.Need-loop-holds Inv-loop μ-loop
 loop-holds c = search (passed-start tillLineEnding)
 
--- src/comment.rt:21:17
 shared-slice-read-b : tie.Need-shared-slice-read-b Inv-loop μ-loop
 shared-slice-read-b c = search needs
 
--- src/comment.rt:23:13
 returns : tie.Need-returns Inv-loop μ-loop
 returns c = search line-feed
 
--- src/comment.rt:26:32
 add-stands-at : tie.Need-add-stands-at Inv-loop μ-loop
 add-stands-at c = search needs
 
--- src/comment.rt:26:16
 stands-at-requires : tie.Need-stands-at-requires Inv-loop μ-loop
 stands-at-requires c κs = search needs
 
--- src/comment.rt:27:17
 returns-2 : tie.Need-returns-2 Inv-loop μ-loop
 returns-2 c = search carriage-return
 
--- src/comment.rt:29:13
 returns-3 : tie.Need-returns-3 Inv-loop μ-loop
 returns-3 c = search lone-return
 
--- src/comment.rt:31:9
 add-i : tie.Need-add-i Inv-loop μ-loop
 add-i c = search needs
 
--- src/comment.rt:20:5
 loop-less : tie.Need-loop-less Inv-loop μ-loop
 loop-less c = search needs
 
--- src/comment.rt:20:5
 loop-again : tie.Need-loop-again Inv-loop μ-loop
 loop-again c = search line-on
 
--- src/comment.rt:16:1
 returns-4 : tie.Need-returns-4 Inv-loop μ-loop
 returns-4 c = search line-end
 

@@ -1,3 +1,4 @@
+use borrow.Author.Needs.{needs}
 use Rattle.recognisers.specs.Text.{bytes}
 use Rattle.recognisers.proofs.Digits.{fraction-inside}
 use Rattle.recognisers.specs.Taking.{typed, spelled, digit0, done}
@@ -5,49 +6,34 @@ use Rattle.recognisers.specs.Number.{decimalNumber}
 use Rattle.recognisers.proofs.Inside.{done-inside}
 use Rattle.recognisers.proofs.Digits.{digits-fit, digit1-none, digit1-then}
 use Rattle.recognisers.proofs.Inside.{fits-more}
-use borrow.Author.Needs.{needs}
 use Rattle.recognisers.proofs.numbers.decimal_number.Statement.{statement}
 use Rattle.recognisers.proofs.numbers.decimal_number.Tie as tie
-use Rattle.recognisers.proofs.numbers.decimal_number.Reads as reads
-use Rattle.recognisers.proofs.numbers.decimal_number.Lts as lts
-use Rattle.recognisers.proofs.numbers.point_fraction.Reads as point-fraction-reads
-use Rattle.recognisers.proofs.scan.count_digits.Reads as count-digits-reads
-use Rattle.recognisers.proofs.scan.n_more.Reads as n-more-reads
 
--- src/numbers.rt:103:9
 count-digits-requires : tie.Need-count-digits-requires
 count-digits-requires c κs = search needs
 
--- src/numbers.rt:105:9
 returns : tie.Need-returns
 unfolding decimalNumber
 returns c = search (digit1-none (spelled typed (bytes ".") (digit0 done)))
 
--- src/numbers.rt:107:30
 sub-point-fraction : tie.Need-sub-point-fraction
 sub-point-fraction c = search (digits-fit (spelled typed (bytes ".") (digit0 done)))
 
--- src/numbers.rt:107:30
 part-point-fraction-start : tie.Need-part-point-fraction-start
 part-point-fraction-start c = search (digits-fit (spelled typed (bytes ".") (digit0 done)))
 
--- src/numbers.rt:107:30
 part-point-fraction-end : tie.Need-part-point-fraction-end
 part-point-fraction-end c = search needs
 
--- src/numbers.rt:107:42
 slice-aggregate-point-fraction : tie.Need-slice-aggregate-point-fraction
 slice-aggregate-point-fraction c = search needs
 
--- src/numbers.rt:107:15
 point-fraction-requires : tie.Need-point-fraction-requires
 point-fraction-requires c κs = search needs
 
--- src/numbers.rt:107:5
 n-more-requires : tie.Need-n-more-requires
 n-more-requires c κs = search (fits-more (spelled typed (bytes ".") (digit0 done)) (fraction-inside done done-inside), digits-fit (spelled typed (bytes ".") (digit0 done)))
 
--- src/numbers.rt:100:1
 returns-2 : tie.Need-returns-2
 unfolding decimalNumber
 returns-2 c = search (digit1-then (spelled typed (bytes ".") (digit0 done)))

@@ -1,46 +1,33 @@
+use borrow.Author.Needs.{needs}
 use Rattle.recognisers.proofs.Digits.{signed-inside}
 use Rattle.recognisers.specs.Taking.{typed}
 use Rattle.recognisers.specs.Number.{signedDigits}
 use Rattle.recognisers.proofs.Spelling.{word-fits, word-then, word-not}
 use Rattle.recognisers.proofs.Inside.{fits-more}
-use borrow.Author.Needs.{needs}
 use Rattle.recognisers.proofs.numbers.exponent_after.Statement.{statement}
 use Rattle.recognisers.proofs.numbers.exponent_after.Tie as tie
-use Rattle.recognisers.proofs.numbers.exponent_after.Reads as reads
-use Rattle.recognisers.proofs.numbers.exponent_after.Lts as lts
-use Rattle.recognisers.proofs.numbers.signed_digits.Reads as signed-digits-reads
-use Rattle.recognisers.proofs.scan.n_more.Reads as n-more-reads
-use Rattle.recognisers.proofs.scan.starts_with.Reads as starts-with-reads
 
--- src/numbers.rt:41:8
 starts-with-requires : tie.Need-starts-with-requires
 starts-with-requires c κs = search needs
 
--- src/numbers.rt:43:40
 sub-signed-digits : tie.Need-sub-signed-digits
 sub-signed-digits c = search (word-fits typed signedDigits)
 
--- src/numbers.rt:43:40
 part-signed-digits-start : tie.Need-part-signed-digits-start
 part-signed-digits-start c = search (word-fits typed signedDigits)
 
--- src/numbers.rt:43:40
 part-signed-digits-end : tie.Need-part-signed-digits-end
 part-signed-digits-end c = search needs
 
--- src/numbers.rt:43:26
 signed-digits-requires : tie.Need-signed-digits-requires
 signed-digits-requires c κs = search needs
 
--- src/numbers.rt:43:9
 n-more-requires : tie.Need-n-more-requires
 n-more-requires c κs = search (fits-more signedDigits signed-inside, word-fits typed signedDigits)
 
--- src/numbers.rt:43:9
 returns : tie.Need-returns
 returns c = search (word-then typed signedDigits)
 
--- src/numbers.rt:38:1
 returns-2 : tie.Need-returns-2
 returns-2 c = search (word-not typed signedDigits)
 

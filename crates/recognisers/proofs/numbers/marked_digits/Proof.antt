@@ -1,44 +1,31 @@
+use borrow.Author.Needs.{needs}
 use Rattle.recognisers.proofs.Digits.{marked-fits, marked-then, marked-not, digits-inside}
 use Rattle.recognisers.specs.Taking.{done, digit1}
 use Rattle.recognisers.proofs.Inside.{fits-more}
-use borrow.Author.Needs.{needs}
 use Rattle.recognisers.proofs.numbers.marked_digits.Statement.{statement}
 use Rattle.recognisers.proofs.numbers.marked_digits.Tie as tie
-use Rattle.recognisers.proofs.numbers.marked_digits.Reads as reads
-use Rattle.recognisers.proofs.numbers.marked_digits.Lts as lts
-use Rattle.recognisers.proofs.numbers.digits.Reads as digits-reads
-use Rattle.recognisers.proofs.scan.n_more.Reads as n-more-reads
-use Rattle.recognisers.proofs.scan.starts_among.Reads as starts-among-reads
 
--- src/numbers.rt:26:8
 starts-among-requires : tie.Need-starts-among-requires
 starts-among-requires c κs = search needs
 
--- src/numbers.rt:27:33
 sub-digits : tie.Need-sub-digits
 sub-digits c = search (marked-fits (digit1 done))
 
--- src/numbers.rt:27:33
 part-digits-start : tie.Need-part-digits-start
 part-digits-start c = search (marked-fits (digit1 done))
 
--- src/numbers.rt:27:33
 part-digits-end : tie.Need-part-digits-end
 part-digits-end c = search needs
 
--- src/numbers.rt:27:26
 digits-requires : tie.Need-digits-requires
 digits-requires c κs = search needs
 
--- src/numbers.rt:27:9
 n-more-requires : tie.Need-n-more-requires
 n-more-requires c κs = search (fits-more (digit1 done) digits-inside, marked-fits (digit1 done))
 
--- src/numbers.rt:27:9
 returns : tie.Need-returns
 returns c = search (marked-then (digit1 done))
 
--- src/numbers.rt:23:1
 returns-2 : tie.Need-returns-2
 returns-2 c = search (marked-not (digit1 done))
 

@@ -1,45 +1,32 @@
+use borrow.Author.Needs.{needs}
 use Rattle.recognisers.specs.Taking.{typed, digit0, done}
 use Rattle.recognisers.proofs.Inside.{digit0-inside, done-inside}
 use Rattle.recognisers.proofs.Spelling.{word-fits, word-then, word-not}
 use Rattle.recognisers.proofs.Inside.{fits-more}
-use borrow.Author.Needs.{needs}
 use Rattle.recognisers.proofs.numbers.point_fraction.Statement.{statement}
 use Rattle.recognisers.proofs.numbers.point_fraction.Tie as tie
-use Rattle.recognisers.proofs.numbers.point_fraction.Reads as reads
-use Rattle.recognisers.proofs.numbers.point_fraction.Lts as lts
-use Rattle.recognisers.proofs.numbers.fraction.Reads as fraction-reads
-use Rattle.recognisers.proofs.scan.n_more.Reads as n-more-reads
-use Rattle.recognisers.proofs.scan.starts_with.Reads as starts-with-reads
 
--- src/numbers.rt:83:8
 starts-with-requires : tie.Need-starts-with-requires
 starts-with-requires c κs = search needs
 
--- src/numbers.rt:85:35
 sub-fraction : tie.Need-sub-fraction
 sub-fraction c = search (word-fits typed (digit0 done))
 
--- src/numbers.rt:85:35
 part-fraction-start : tie.Need-part-fraction-start
 part-fraction-start c = search (word-fits typed (digit0 done))
 
--- src/numbers.rt:85:35
 part-fraction-end : tie.Need-part-fraction-end
 part-fraction-end c = search needs
 
--- src/numbers.rt:85:26
 fraction-requires : tie.Need-fraction-requires
 fraction-requires c κs = search needs
 
--- src/numbers.rt:85:9
 n-more-requires : tie.Need-n-more-requires
 n-more-requires c κs = search (fits-more (digit0 done) (digit0-inside done done-inside), word-fits typed (digit0 done))
 
--- src/numbers.rt:85:9
 returns : tie.Need-returns
 returns c = search (word-then typed (digit0 done))
 
--- src/numbers.rt:80:1
 returns-2 : tie.Need-returns-2
 returns-2 c = search (word-not typed (digit0 done))
 

@@ -1,47 +1,34 @@
+use borrow.Author.Needs.{needs}
 use Rattle.recognisers.proofs.Digits.{exponent-inside}
 use Rattle.recognisers.specs.Taking.{typed, digit0}
 use Rattle.recognisers.specs.Number.{exponent}
 use Rattle.recognisers.proofs.Inside.{digit0-inside}
 use Rattle.recognisers.proofs.Spelling.{word-fits, word-then, word-not}
 use Rattle.recognisers.proofs.Inside.{fits-more}
-use borrow.Author.Needs.{needs}
 use Rattle.recognisers.proofs.numbers.point_fraction_exponent.Statement.{statement}
 use Rattle.recognisers.proofs.numbers.point_fraction_exponent.Tie as tie
-use Rattle.recognisers.proofs.numbers.point_fraction_exponent.Reads as reads
-use Rattle.recognisers.proofs.numbers.point_fraction_exponent.Lts as lts
-use Rattle.recognisers.proofs.numbers.fraction_exponent.Reads as fraction-exponent-reads
-use Rattle.recognisers.proofs.scan.n_more.Reads as n-more-reads
-use Rattle.recognisers.proofs.scan.starts_with.Reads as starts-with-reads
 
--- src/numbers.rt:73:8
 starts-with-requires : tie.Need-starts-with-requires
 starts-with-requires c κs = search needs
 
--- src/numbers.rt:75:44
 sub-fraction-exponent : tie.Need-sub-fraction-exponent
 sub-fraction-exponent c = search (word-fits typed (digit0 exponent))
 
--- src/numbers.rt:75:44
 part-fraction-exponent-start : tie.Need-part-fraction-exponent-start
 part-fraction-exponent-start c = search (word-fits typed (digit0 exponent))
 
--- src/numbers.rt:75:44
 part-fraction-exponent-end : tie.Need-part-fraction-exponent-end
 part-fraction-exponent-end c = search needs
 
--- src/numbers.rt:75:26
 fraction-exponent-requires : tie.Need-fraction-exponent-requires
 fraction-exponent-requires c κs = search needs
 
--- src/numbers.rt:75:9
 n-more-requires : tie.Need-n-more-requires
 n-more-requires c κs = search (fits-more (digit0 exponent) (digit0-inside exponent exponent-inside), word-fits typed (digit0 exponent))
 
--- src/numbers.rt:75:9
 returns : tie.Need-returns
 returns c = search (word-then typed (digit0 exponent))
 
--- src/numbers.rt:70:1
 returns-2 : tie.Need-returns-2
 returns-2 c = search (word-not typed (digit0 exponent))
 

@@ -1,35 +1,25 @@
 use borrow.Author.Needs.{needs}
 use Rattle.recognisers.proofs.parens.square.Statement.{statement}
 use Rattle.recognisers.proofs.parens.square.Tie as tie
-use Rattle.recognisers.proofs.parens.square.Reads as reads
-use Rattle.recognisers.proofs.parens.square.Lts as lts
-use Rattle.recognisers.proofs.scan.exactly.Reads as exactly-reads
 
--- src/parens.rt:22:29
 enum-told : tie.Need-enum-told
 enum-told c = search needs
 
--- src/parens.rt:23:32
 enum-told-2 : tie.Need-enum-told-2
 enum-told-2 c = search needs
 
--- src/parens.rt:23:32
 exactly-requires : tie.Need-exactly-requires
 exactly-requires c κs = search needs
 
--- src/parens.rt:24:31
 enum-told-3 : tie.Need-enum-told-3
 enum-told-3 c = search needs
 
--- src/parens.rt:18:1
 returns : tie.Need-returns
 returns c = search needs
 
--- src/parens.rt:18:1
 returns-2 : tie.Need-returns-2
 returns-2 c = rw (c .before .enum-told2 .given .1) (c .exactly .ensures)
 
--- src/parens.rt:18:1
 returns-3 : tie.Need-returns-3
 returns-3 c = search needs
 

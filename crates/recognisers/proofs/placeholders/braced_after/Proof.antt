@@ -1,46 +1,33 @@
+use borrow.Author.Needs.{needs}
 use Rattle.recognisers.proofs.PlaceholderLaws.{braced-inside}
 use Rattle.recognisers.specs.Placeholder.{bracedText}
 use Rattle.recognisers.specs.Taking.{typed}
 use Rattle.recognisers.proofs.Spelling.{word-fits, word-then, word-not}
 use Rattle.recognisers.proofs.Inside.{fits-more}
-use borrow.Author.Needs.{needs}
 use Rattle.recognisers.proofs.placeholders.braced_after.Statement.{statement}
 use Rattle.recognisers.proofs.placeholders.braced_after.Tie as tie
-use Rattle.recognisers.proofs.placeholders.braced_after.Reads as reads
-use Rattle.recognisers.proofs.placeholders.braced_after.Lts as lts
-use Rattle.recognisers.proofs.placeholders.braced_text.Reads as braced-text-reads
-use Rattle.recognisers.proofs.scan.n_more.Reads as n-more-reads
-use Rattle.recognisers.proofs.scan.starts_with.Reads as starts-with-reads
 
--- src/placeholders.rt:172:8
 starts-with-requires : tie.Need-starts-with-requires
 starts-with-requires c κs = search needs
 
--- src/placeholders.rt:174:38
 sub-braced-text : tie.Need-sub-braced-text
 sub-braced-text c = search (word-fits typed bracedText)
 
--- src/placeholders.rt:174:38
 part-braced-text-start : tie.Need-part-braced-text-start
 part-braced-text-start c = search (word-fits typed bracedText)
 
--- src/placeholders.rt:174:38
 part-braced-text-end : tie.Need-part-braced-text-end
 part-braced-text-end c = search needs
 
--- src/placeholders.rt:174:26
 braced-text-requires : tie.Need-braced-text-requires
 braced-text-requires c κs = search needs
 
--- src/placeholders.rt:174:9
 n-more-requires : tie.Need-n-more-requires
 n-more-requires c κs = search (fits-more bracedText braced-inside, word-fits typed bracedText)
 
--- src/placeholders.rt:174:9
 returns : tie.Need-returns
 returns c = search (word-then typed bracedText)
 
--- src/placeholders.rt:169:1
 returns-2 : tie.Need-returns-2
 returns-2 c = search (word-not typed bracedText)
 

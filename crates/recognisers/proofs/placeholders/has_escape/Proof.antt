@@ -1,12 +1,9 @@
 use Prim.Native.Nat.{_-_}
 use lib.ListN.{length}
-use Rattle.recognisers.proofs.PlaceholderLaws.{EscapeAt, escape-start, escape-here, escape-on, escape-none}
 use borrow.Author.Needs.{needs}
+use Rattle.recognisers.proofs.PlaceholderLaws.{EscapeAt, escape-start, escape-here, escape-on, escape-none}
 use Rattle.recognisers.proofs.placeholders.has_escape.Statement.{statement}
 use Rattle.recognisers.proofs.placeholders.has_escape.Tie as tie
-use Rattle.recognisers.proofs.placeholders.has_escape.Reads as reads
-use Rattle.recognisers.proofs.placeholders.has_escape.Lts as lts
-use Rattle.recognisers.proofs.scan.pair_stands_at.Reads as pair-stands-at-reads
 
 abbrev Inv-loop : tie.InvT-loop
 Inv-loop text quote i₀ i = EscapeAt quote text i
@@ -14,31 +11,24 @@ Inv-loop text quote i₀ i = EscapeAt quote text i
 abbrev μ-loop : tie.MeasureT-loop
 μ-loop text quote i₀ i = length text - i
 
--- src/placeholders.rt:208:5
 loop-holds : tie.Need-loop-holds Inv-loop μ-loop
 loop-holds c = search escape-start
 
--- src/placeholders.rt:209:12
 pair-stands-at-requires : tie.Need-pair-stands-at-requires Inv-loop μ-loop
 pair-stands-at-requires c κs = search needs
 
--- src/placeholders.rt:210:13
 returns : tie.Need-returns Inv-loop μ-loop
 returns c = search escape-here
 
--- src/placeholders.rt:212:9
 add-i : tie.Need-add-i Inv-loop μ-loop
 add-i c = search needs
 
--- src/placeholders.rt:208:5
 loop-less : tie.Need-loop-less Inv-loop μ-loop
 loop-less c = search needs
 
--- src/placeholders.rt:208:5
 loop-again : tie.Need-loop-again Inv-loop μ-loop
 loop-again c = search escape-on
 
--- src/placeholders.rt:204:1
 returns-2 : tie.Need-returns-2 Inv-loop μ-loop
 returns-2 c = search escape-none
 

@@ -1,42 +1,29 @@
-use Rattle.recognisers.proofs.PlaceholderLaws.{no-index, index-is}
 use borrow.Author.Needs.{needs}
+use Rattle.recognisers.proofs.PlaceholderLaws.{no-index, index-is}
 use Rattle.recognisers.proofs.placeholders.indexed_key.Statement.{statement}
 use Rattle.recognisers.proofs.placeholders.indexed_key.Tie as tie
-use Rattle.recognisers.proofs.placeholders.indexed_key.Reads as reads
-use Rattle.recognisers.proofs.placeholders.indexed_key.Lts as lts
-use Rattle.recognisers.proofs.placeholders.indexed_by.Reads as indexed-by-reads
-use Rattle.recognisers.proofs.placeholders.number_of.Reads as number-of-reads
-use Rattle.recognisers.proofs.scan.stands_at.Reads as stands-at-reads
 
--- src/placeholders.rt:73:9
 returns : tie.Need-returns
 returns c = search no-index
 
--- src/placeholders.rt:75:16
 stands-at-requires : tie.Need-stands-at-requires
 stands-at-requires c κs = search needs
 
--- src/placeholders.rt:75:52
 sub-number-of : tie.Need-sub-number-of
 sub-number-of c = search needs
 
--- src/placeholders.rt:75:52
 part-number-of-start : tie.Need-part-number-of-start
 part-number-of-start c = search needs
 
--- src/placeholders.rt:75:52
 part-number-of-end : tie.Need-part-number-of-end
 part-number-of-end c = search needs
 
--- src/placeholders.rt:75:42
 number-of-requires : tie.Need-number-of-requires
 number-of-requires c κs = search needs
 
--- src/placeholders.rt:75:5
 indexed-by-requires : tie.Need-indexed-by-requires
 indexed-by-requires c κs = search needs
 
--- src/placeholders.rt:68:1
 returns-2 : tie.Need-returns-2
 returns-2 c = search index-is
 

@@ -1,13 +1,11 @@
 use Prim.Native.Nat.{_-_}
 use lib.ListN.{length}
+use borrow.Author.Needs.{needs}
 use Rattle.recognisers.specs.Placeholder.{throughBrace}
 use Rattle.recognisers.proofs.PlaceholderLaws.{brace-here, brace-on, brace-none}
 use Rattle.recognisers.proofs.Comments.{PassedAt, passed-start}
-use borrow.Author.Needs.{needs}
 use Rattle.recognisers.proofs.placeholders.through_brace.Statement.{statement}
 use Rattle.recognisers.proofs.placeholders.through_brace.Tie as tie
-use Rattle.recognisers.proofs.placeholders.through_brace.Reads as reads
-use Rattle.recognisers.proofs.placeholders.through_brace.Lts as lts
 
 abbrev Inv-loop : tie.InvT-loop
 Inv-loop rest i₀ i = PassedAt throughBrace rest i
@@ -15,35 +13,27 @@ Inv-loop rest i₀ i = PassedAt throughBrace rest i
 abbrev μ-loop : tie.MeasureT-loop
 μ-loop rest i₀ i = length rest - i
 
--- src/placeholders.rt:151:5
 loop-holds : tie.Need-loop-holds Inv-loop μ-loop
 loop-holds c = search (passed-start throughBrace)
 
--- src/placeholders.rt:152:12
 shared-slice-read-if1 : tie.Need-shared-slice-read-if1 Inv-loop μ-loop
 shared-slice-read-if1 c = search needs
 
--- src/placeholders.rt:153:33
 add-t7 : tie.Need-add-t7 Inv-loop μ-loop
 add-t7 c = search needs
 
--- src/placeholders.rt:153:13
 returns : tie.Need-returns Inv-loop μ-loop
 returns c = search brace-here
 
--- src/placeholders.rt:155:9
 add-i : tie.Need-add-i Inv-loop μ-loop
 add-i c = search needs
 
--- src/placeholders.rt:151:5
 loop-less : tie.Need-loop-less Inv-loop μ-loop
 loop-less c = search needs
 
--- src/placeholders.rt:151:5
 loop-again : tie.Need-loop-again Inv-loop μ-loop
 loop-again c = search brace-on
 
--- src/placeholders.rt:147:1
 returns-2 : tie.Need-returns-2 Inv-loop μ-loop
 returns-2 c = search brace-none
 

@@ -1,15 +1,10 @@
 use borrow.Author.Tests.{le-leb, lt-leb}
-use borrow.Author.Needs.{needs}
 use Rattle.recognisers.proofs.scan.at_least.Statement.{statement}
 use Rattle.recognisers.proofs.scan.at_least.Tie as tie
-use Rattle.recognisers.proofs.scan.at_least.Reads as reads
-use Rattle.recognisers.proofs.scan.at_least.Lts as lts
 
--- src/scan.rt:122:1
 returns : tie.Need-returns
 returns c = rw (le-leb _ _ (c .if1 .taken))
 
--- src/scan.rt:122:1
 returns-2 : tie.Need-returns-2
 returns-2 c = rw (lt-leb _ _ (c .if1 .left))
 

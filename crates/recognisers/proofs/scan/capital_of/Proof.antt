@@ -1,27 +1,21 @@
 use borrow.Author.Tests.{le-leb, lt-leb}
+use borrow.Author.Needs.{needs}
 use Rattle.unicode.specs.Ranges.{within}
 use Rattle.recognisers.specs.Taking.{capital}
-use borrow.Author.Needs.{needs}
 use Rattle.recognisers.proofs.scan.capital_of.Statement.{statement}
 use Rattle.recognisers.proofs.scan.capital_of.Tie as tie
-use Rattle.recognisers.proofs.scan.capital_of.Reads as reads
-use Rattle.recognisers.proofs.scan.capital_of.Lts as lts
 
--- src/scan.rt:59:20
 sub-result : tie.Need-sub-result
 sub-result c = search needs
 
--- src/scan.rt:59:13
 returns : tie.Need-returns
 unfolding capital within
 returns c = rw (le-leb _ _ (c .before .if1 .taken), le-leb _ _ (c .if2 .taken))
 
--- src/scan.rt:54:1
 returns-2 : tie.Need-returns-2
 unfolding capital within
 returns-2 c = rw (le-leb _ _ (c .before .if1 .taken), lt-leb _ _ (c .if2 .left))
 
--- src/scan.rt:54:1
 returns-3 : tie.Need-returns-3
 unfolding capital within
 returns-3 c = rw (lt-leb _ _ (c .if1 .left))

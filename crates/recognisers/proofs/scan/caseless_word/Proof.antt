@@ -1,44 +1,31 @@
+use borrow.Author.Needs.{needs}
 use Rattle.recognisers.specs.Taking.{capital, endOfWord}
 use Rattle.recognisers.proofs.Spelling.{word-fits, word-then, word-not}
 use Rattle.recognisers.proofs.Inside.{fits-more, end-of-word-inside}
-use borrow.Author.Needs.{needs}
 use Rattle.recognisers.proofs.scan.caseless_word.Statement.{statement}
 use Rattle.recognisers.proofs.scan.caseless_word.Tie as tie
-use Rattle.recognisers.proofs.scan.caseless_word.Reads as reads
-use Rattle.recognisers.proofs.scan.caseless_word.Lts as lts
-use Rattle.recognisers.proofs.scan.end_of_word.Reads as end-of-word-reads
-use Rattle.recognisers.proofs.scan.n_more.Reads as n-more-reads
-use Rattle.recognisers.proofs.scan.starts_with_caseless.Reads as starts-with-caseless-reads
 
--- src/scan.rt:173:8
 starts-with-caseless-requires : tie.Need-starts-with-caseless-requires
 starts-with-caseless-requires c κs = search needs
 
--- src/scan.rt:175:38
 sub-end-of-word : tie.Need-sub-end-of-word
 sub-end-of-word c = search (word-fits capital endOfWord)
 
--- src/scan.rt:175:38
 part-end-of-word-start : tie.Need-part-end-of-word-start
 part-end-of-word-start c = search (word-fits capital endOfWord)
 
--- src/scan.rt:175:38
 part-end-of-word-end : tie.Need-part-end-of-word-end
 part-end-of-word-end c = search needs
 
--- src/scan.rt:175:26
 end-of-word-requires : tie.Need-end-of-word-requires
 end-of-word-requires c κs = search needs
 
--- src/scan.rt:175:9
 n-more-requires : tie.Need-n-more-requires
 n-more-requires c κs = search (fits-more endOfWord end-of-word-inside, word-fits capital endOfWord)
 
--- src/scan.rt:175:9
 returns : tie.Need-returns
 returns c = search (word-then capital endOfWord)
 
--- src/scan.rt:170:1
 returns-2 : tie.Need-returns-2
 returns-2 c = search (word-not capital endOfWord)
 

@@ -1,23 +1,17 @@
-use Rattle.recognisers.proofs.Cases.{or-bytes}
 use borrow.Author.Needs.{needs}
+use Rattle.recognisers.proofs.Cases.{or-bytes}
 use Rattle.recognisers.proofs.scan.first_of.Statement.{statement}
 use Rattle.recognisers.proofs.scan.first_of.Tie as tie
-use Rattle.recognisers.proofs.scan.first_of.Reads as reads
-use Rattle.recognisers.proofs.scan.first_of.Lts as lts
 
--- src/scan.rt:117:22
 enum-known-a : tie.Need-enum-known-a
 enum-known-a c = search needs
 
--- src/scan.rt:118:25
 enum-told : tie.Need-enum-told
 enum-told c = search needs
 
--- src/scan.rt:113:1
 returns : tie.Need-returns
 returns c = search or-bytes
 
--- src/scan.rt:113:1
 returns-2 : tie.Need-returns-2
 returns-2 c = search needs
 

@@ -1,11 +1,9 @@
 use Prim.Native.Nat.{_-_}
 use lib.ListN.{length}
-use Rattle.recognisers.proofs.Counting.{AmongAt, among-start, among-here, among-next, among-none}
 use borrow.Author.Needs.{needs}
+use Rattle.recognisers.proofs.Counting.{AmongAt, among-start, among-here, among-next, among-none}
 use Rattle.recognisers.proofs.scan.is_among.Statement.{statement}
 use Rattle.recognisers.proofs.scan.is_among.Tie as tie
-use Rattle.recognisers.proofs.scan.is_among.Reads as reads
-use Rattle.recognisers.proofs.scan.is_among.Lts as lts
 
 abbrev Inv-loop : tie.InvT-loop
 Inv-loop bytes b i₀ i = AmongAt bytes b i
@@ -13,31 +11,24 @@ Inv-loop bytes b i₀ i = AmongAt bytes b i
 abbrev μ-loop : tie.MeasureT-loop
 μ-loop bytes b i₀ i = length bytes - i
 
--- src/scan.rt:18:5
 loop-holds : tie.Need-loop-holds Inv-loop μ-loop
 loop-holds c = search among-start
 
--- src/scan.rt:19:17
 shared-slice-read-if1 : tie.Need-shared-slice-read-if1 Inv-loop μ-loop
 shared-slice-read-if1 c = search needs
 
--- src/scan.rt:20:13
 returns : tie.Need-returns Inv-loop μ-loop
 returns c = search among-here
 
--- src/scan.rt:22:9
 add-i : tie.Need-add-i Inv-loop μ-loop
 add-i c = search needs
 
--- src/scan.rt:18:5
 loop-less : tie.Need-loop-less Inv-loop μ-loop
 loop-less c = search needs
 
--- src/scan.rt:18:5
 loop-again : tie.Need-loop-again Inv-loop μ-loop
 loop-again c = search among-next
 
--- src/scan.rt:14:1
 returns-2 : tie.Need-returns-2 Inv-loop μ-loop
 returns-2 c = search among-none
 

@@ -1,12 +1,10 @@
 use Prim.Native.Nat.{_-_}
 use lib.ListN.{length}
+use borrow.Author.Needs.{needs}
 use Rattle.recognisers.specs.Taking.{typed}
 use Rattle.recognisers.proofs.Spelling.{SpelledAt, spelled-short, spelled-start, typed-more, typed-not, spelled-end}
-use borrow.Author.Needs.{needs}
 use Rattle.recognisers.proofs.scan.starts_with.Statement.{statement}
 use Rattle.recognisers.proofs.scan.starts_with.Tie as tie
-use Rattle.recognisers.proofs.scan.starts_with.Reads as reads
-use Rattle.recognisers.proofs.scan.starts_with.Lts as lts
 
 abbrev Inv-loop : tie.InvT-loop
 Inv-loop rest word i₀ i = SpelledAt typed word rest i
@@ -14,39 +12,30 @@ Inv-loop rest word i₀ i = SpelledAt typed word rest i
 abbrev μ-loop : tie.MeasureT-loop
 μ-loop rest word i₀ i = length word - i
 
--- src/scan.rt:31:9
 returns : tie.Need-returns Inv-loop μ-loop
 returns c = search (spelled-short typed)
 
--- src/scan.rt:34:5
 loop-holds : tie.Need-loop-holds Inv-loop μ-loop
 loop-holds c = search (spelled-start typed)
 
--- src/scan.rt:35:12
 shared-slice-read-if2 : tie.Need-shared-slice-read-if2 Inv-loop μ-loop
 shared-slice-read-if2 c = search needs
 
--- src/scan.rt:35:23
 shared-slice-read-if2-2 : tie.Need-shared-slice-read-if2-2 Inv-loop μ-loop
 shared-slice-read-if2-2 c = search needs
 
--- src/scan.rt:36:13
 add-i : tie.Need-add-i Inv-loop μ-loop
 add-i c = search needs
 
--- src/scan.rt:34:5
 loop-less : tie.Need-loop-less Inv-loop μ-loop
 loop-less c = search needs
 
--- src/scan.rt:34:5
 loop-again : tie.Need-loop-again Inv-loop μ-loop
 loop-again c = search typed-more
 
--- src/scan.rt:38:13
 returns-2 : tie.Need-returns-2 Inv-loop μ-loop
 returns-2 c = search typed-not
 
--- src/scan.rt:27:1
 returns-3 : tie.Need-returns-3 Inv-loop μ-loop
 returns-3 c = search (spelled-end typed)
 

@@ -1,43 +1,31 @@
 use borrow.Author.Needs.{needs}
 use Rattle.recognisers.proofs.strings.bracketed.Statement.{statement}
 use Rattle.recognisers.proofs.strings.bracketed.Tie as tie
-use Rattle.recognisers.proofs.strings.bracketed.Reads as reads
-use Rattle.recognisers.proofs.strings.bracketed.Lts as lts
-use Rattle.recognisers.proofs.strings.quoted.Reads as quoted-reads
 
--- src/strings.rt:67:29
 enum-told : tie.Need-enum-told
 enum-told c = search needs
 
--- src/strings.rt:68:32
 enum-told-2 : tie.Need-enum-told-2
 enum-told-2 c = search needs
 
--- src/strings.rt:69:44
 enum-told-3 : tie.Need-enum-told-3
 enum-told-3 c = search needs
 
--- src/strings.rt:69:44
 slice-aggregate-quoted : tie.Need-slice-aggregate-quoted
 slice-aggregate-quoted c = search needs
 
--- src/strings.rt:69:56
 slice-aggregate-quoted-2 : tie.Need-slice-aggregate-quoted-2
 slice-aggregate-quoted-2 c = search needs
 
--- src/strings.rt:69:31
 quoted-requires : tie.Need-quoted-requires
 quoted-requires c κs = search needs
 
--- src/strings.rt:63:1
 returns : tie.Need-returns
 returns c = search needs
 
--- src/strings.rt:63:1
 returns-2 : tie.Need-returns-2
 returns-2 c = search needs
 
--- src/strings.rt:63:1
 returns-3 : tie.Need-returns-3
 returns-3 c = rw (c .before .before .before .enum-told3 .given .1) (c .quoted .ensures)
 

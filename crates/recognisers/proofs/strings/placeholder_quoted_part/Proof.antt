@@ -1,57 +1,41 @@
-use Rattle.recognisers.specs.Strings.{placeholderQuotedPart}
 use borrow.Author.Needs.{needs}
+use Rattle.recognisers.specs.Strings.{placeholderQuotedPart}
 use Rattle.recognisers.proofs.strings.placeholder_quoted_part.Statement.{statement}
 use Rattle.recognisers.proofs.strings.placeholder_quoted_part.Tie as tie
-use Rattle.recognisers.proofs.strings.placeholder_quoted_part.Reads as reads
-use Rattle.recognisers.proofs.strings.placeholder_quoted_part.Lts as lts
-use Rattle.recognisers.proofs.scan.first_of.Reads as first-of-reads
-use Rattle.recognisers.proofs.strings.quoted.Reads as quoted-reads
 
--- src/strings.rt:115:31
 slice-aggregate-quoted : tie.Need-slice-aggregate-quoted
 slice-aggregate-quoted c = search needs
 
--- src/strings.rt:115:44
 slice-aggregate-quoted-2 : tie.Need-slice-aggregate-quoted-2
 slice-aggregate-quoted-2 c = search needs
 
--- src/strings.rt:115:9
 quoted-requires : tie.Need-quoted-requires
 quoted-requires c κs = search needs
 
--- src/strings.rt:116:31
 slice-aggregate-quoted-3 : tie.Need-slice-aggregate-quoted-3
 slice-aggregate-quoted-3 c = search needs
 
--- src/strings.rt:116:44
 slice-aggregate-quoted-4 : tie.Need-slice-aggregate-quoted-4
 slice-aggregate-quoted-4 c = search needs
 
--- src/strings.rt:116:9
 quoted-requires-2 : tie.Need-quoted-requires-2
 quoted-requires-2 c κs = search needs
 
--- src/strings.rt:117:52
 slice-aggregate-quoted-5 : tie.Need-slice-aggregate-quoted-5
 slice-aggregate-quoted-5 c = search needs
 
--- src/strings.rt:117:66
 slice-aggregate-quoted-6 : tie.Need-slice-aggregate-quoted-6
 slice-aggregate-quoted-6 c = search needs
 
--- src/strings.rt:117:39
 quoted-requires-3 : tie.Need-quoted-requires-3
 quoted-requires-3 c κs = search needs
 
--- src/strings.rt:117:22
 first-of-requires : tie.Need-first-of-requires
 first-of-requires c κs = search needs
 
--- src/strings.rt:117:5
 first-of-requires-2 : tie.Need-first-of-requires-2
 first-of-requires-2 c κs = search needs
 
--- src/strings.rt:112:1
 returns : tie.Need-returns
 unfolding placeholderQuotedPart
 returns c = cc

@@ -1,15 +1,12 @@
 use Prim.Native.Nat.{_-_}
 use mathlib.Core.Bool.{false}
 use lib.ListN.{length}
+use borrow.Author.Needs.{needs}
 use Rattle.recognisers.specs.Strings.{takeTillEscaping}
 use Rattle.recognisers.proofs.Comments.{PassedAt}
 use Rattle.recognisers.proofs.Quotes.{quote-start, quote-two, quote-here, quote-one, quote-none}
-use borrow.Author.Needs.{needs}
 use Rattle.recognisers.proofs.strings.take_till_escaping.Statement.{statement}
 use Rattle.recognisers.proofs.strings.take_till_escaping.Tie as tie
-use Rattle.recognisers.proofs.strings.take_till_escaping.Reads as reads
-use Rattle.recognisers.proofs.strings.take_till_escaping.Lts as lts
-use Rattle.recognisers.proofs.strings.escaped_at.Reads as escaped-at-reads
 
 abbrev Inv-loop : tie.InvT-loop
 Inv-loop rest desired escapes i₀ i = PassedAt (takeTillEscaping desired escapes false) rest i
@@ -17,47 +14,36 @@ Inv-loop rest desired escapes i₀ i = PassedAt (takeTillEscaping desired escape
 abbrev μ-loop : tie.MeasureT-loop
 μ-loop rest desired escapes i₀ i = length rest - i
 
--- src/strings.rt:33:5
 loop-holds : tie.Need-loop-holds Inv-loop μ-loop
 loop-holds c = search quote-start
 
--- src/strings.rt:34:12
 escaped-at-requires : tie.Need-escaped-at-requires Inv-loop μ-loop
 escaped-at-requires c κs = search needs
 
--- src/strings.rt:35:13
 add-i : tie.Need-add-i Inv-loop μ-loop
 add-i c = search needs
 
--- src/strings.rt:33:5
 loop-less : tie.Need-loop-less Inv-loop μ-loop
 loop-less c = search needs
 
--- src/strings.rt:33:5
 loop-again : tie.Need-loop-again Inv-loop μ-loop
 loop-again c = search quote-two
 
--- src/strings.rt:37:16
 shared-slice-read-if2 : tie.Need-shared-slice-read-if2 Inv-loop μ-loop
 shared-slice-read-if2 c = search needs
 
--- src/strings.rt:38:17
 returns : tie.Need-returns Inv-loop μ-loop
 returns c = search quote-here
 
--- src/strings.rt:40:13
 add-i-2 : tie.Need-add-i-2 Inv-loop μ-loop
 add-i-2 c = search needs
 
--- src/strings.rt:33:5
 loop-less-2 : tie.Need-loop-less-2 Inv-loop μ-loop
 loop-less-2 c = search needs
 
--- src/strings.rt:33:5
 loop-again-2 : tie.Need-loop-again-2 Inv-loop μ-loop
 loop-again-2 c = search quote-one
 
--- src/strings.rt:29:1
 returns-2 : tie.Need-returns-2 Inv-loop μ-loop
 returns-2 c = search quote-none
 

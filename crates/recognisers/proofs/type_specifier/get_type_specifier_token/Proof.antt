@@ -1,22 +1,16 @@
+use borrow.Author.Needs.{needs}
 use Rattle.recognisers.specs.TypeSpecifier.{getTypeSpecifierToken}
 use Rattle.recognisers.proofs.Cases.{cond-yes, cond-no}
-use borrow.Author.Needs.{needs}
 use Rattle.recognisers.proofs.type_specifier.get_type_specifier_token.Statement.{statement}
 use Rattle.recognisers.proofs.type_specifier.get_type_specifier_token.Tie as tie
-use Rattle.recognisers.proofs.type_specifier.get_type_specifier_token.Reads as reads
-use Rattle.recognisers.proofs.type_specifier.get_type_specifier_token.Lts as lts
-use Rattle.recognisers.proofs.type_specifier.type_specifier.Reads as type-specifier-reads
 
--- src/type_specifier.rt:28:9
 type-specifier-requires : tie.Need-type-specifier-requires
 type-specifier-requires c κs = search needs
 
--- src/type_specifier.rt:28:9
 returns : tie.Need-returns
 unfolding getTypeSpecifierToken
 returns c = search cond-yes
 
--- src/type_specifier.rt:24:1
 returns-2 : tie.Need-returns-2
 unfolding getTypeSpecifierToken
 returns-2 c = search cond-no

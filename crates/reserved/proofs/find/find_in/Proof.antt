@@ -1,13 +1,9 @@
 use Prim.Native.Nat.{_-_}
 use lib.ListN.{length}
-use Rattle.reserved.proofs.Finding.{FindAt, find-start, find-cut, find-here, find-next, find-end}
 use borrow.Author.Needs.{needs}
+use Rattle.reserved.proofs.Finding.{FindAt, find-start, find-cut, find-here, find-next, find-end}
 use Rattle.reserved.proofs.find.find_in.Statement.{statement}
 use Rattle.reserved.proofs.find.find_in.Tie as tie
-use Rattle.reserved.proofs.find.find_in.Reads as reads
-use Rattle.reserved.proofs.find.find_in.Lts as lts
-use Rattle.reserved.proofs.find.entry_end.Reads as entry-end-reads
-use Rattle.reserved.proofs.find.wide.Reads as wide-reads
 
 abbrev Inv-loop : tie.InvT-loop
 Inv-loop table rest at₀ at = FindAt table rest at
@@ -15,82 +11,63 @@ Inv-loop table rest at₀ at = FindAt table rest at
 abbrev μ-loop : tie.MeasureT-loop
 μ-loop table rest at₀ at = length table - at
 
--- src/find.rt:92:5
 loop-holds : tie.Need-loop-holds Inv-loop μ-loop
 loop-holds c = search find-start
 
--- src/find.rt:92:11
 add-loop : tie.Need-add-loop Inv-loop μ-loop
 add-loop c = search needs
 
--- src/find.rt:93:21
 shared-slice-read-group : tie.Need-shared-slice-read-group Inv-loop μ-loop
 shared-slice-read-group c = search needs
 
--- src/find.rt:94:21
 add-start : tie.Need-add-start Inv-loop μ-loop
 add-start c = search needs
 
--- src/find.rt:95:28
 add-wide : tie.Need-add-wide Inv-loop μ-loop
 add-wide c = search needs
 
--- src/find.rt:95:22
 shared-slice-read-wide : tie.Need-shared-slice-read-wide Inv-loop μ-loop
 shared-slice-read-wide c = search needs
 
--- src/find.rt:95:13
 wide-requires : tie.Need-wide-requires Inv-loop μ-loop
 wide-requires c κs = search needs
 
--- src/find.rt:96:12
 sub-if1 : tie.Need-sub-if1 Inv-loop μ-loop
 sub-if1 c = search needs
 
--- src/find.rt:97:13
 returns : tie.Need-returns Inv-loop μ-loop
 returns c = search find-cut
 
--- src/find.rt:99:19
 add-end : tie.Need-add-end Inv-loop μ-loop
 add-end c = search needs
 
--- src/find.rt:100:59
 sub-entry-end : tie.Need-sub-entry-end Inv-loop μ-loop
 sub-entry-end c = search needs
 
--- src/find.rt:100:59
 part-entry-end-start : tie.Need-part-entry-end-start Inv-loop μ-loop
 part-entry-end-start c = search needs
 
--- src/find.rt:100:59
 part-entry-end-end : tie.Need-part-entry-end-end Inv-loop μ-loop
 part-entry-end-end c = search needs
 
--- src/find.rt:100:36
 entry-end-requires : tie.Need-entry-end-requires Inv-loop μ-loop
 entry-end-requires c κs = search needs
 
--- src/find.rt:100:29
 enum-known-len : tie.Need-enum-known-len Inv-loop μ-loop
 enum-known-len c = search needs
 
--- src/find.rt:101:13
 returns-2 : tie.Need-returns-2 Inv-loop μ-loop
 returns-2 c = search find-here
 
 enum-told : tie.Need-enum-told Inv-loop μ-loop
 enum-told c = search needs
 
--- src/find.rt:92:5
 loop-less : tie.Need-loop-less Inv-loop μ-loop
 loop-less c = search needs
 
--- src/find.rt:92:5
 loop-again : tie.Need-loop-again Inv-loop μ-loop
 loop-again c = search find-next
 
--- src/find.rt:88:1
 returns-3 : tie.Need-returns-3 Inv-loop μ-loop
 returns-3 c = search find-end
 

@@ -1,60 +1,43 @@
+use borrow.Author.Needs.{needs}
 use Rattle.reserved.proofs.Walking.{words-fit, exists-yes, exists-no}
 use Rattle.recognisers.specs.Taking.{endOfWord}
 use Rattle.recognisers.proofs.Inside.{fits-more, end-of-word-inside}
-use borrow.Author.Needs.{needs}
 use Rattle.reserved.proofs.find.if_exists.Statement.{statement}
 use Rattle.reserved.proofs.find.if_exists.Tie as tie
-use Rattle.reserved.proofs.find.if_exists.Reads as reads
-use Rattle.reserved.proofs.find.if_exists.Lts as lts
-use Rattle.recognisers.proofs.end_of_word.Reads as end-of-word-reads
-use Rattle.recognisers.proofs.n_more.Reads as n-more-reads
-use Rattle.reserved.proofs.find.words_end.Reads as words-end-reads
 
--- src/find.rt:57:27
 slice-aggregate-words-end : tie.Need-slice-aggregate-words-end
 slice-aggregate-words-end c = search needs
 
--- src/find.rt:57:11
 words-end-requires : tie.Need-words-end-requires
 words-end-requires c κs = search needs
 
--- src/find.rt:58:22
 enum-known-n : tie.Need-enum-known-n
 enum-known-n c = search needs
 
--- src/find.rt:58:50
 sub-end-of-word : tie.Need-sub-end-of-word
 sub-end-of-word c = search words-fit
 
--- src/find.rt:58:50
 part-end-of-word-start : tie.Need-part-end-of-word-start
 part-end-of-word-start c = search words-fit
 
--- src/find.rt:58:50
 part-end-of-word-end : tie.Need-part-end-of-word-end
 part-end-of-word-end c = search needs
 
--- src/find.rt:58:38
 end-of-word-requires : tie.Need-end-of-word-requires
 end-of-word-requires c κs = search needs
 
--- src/find.rt:58:28
 n-more-requires : tie.Need-n-more-requires
 n-more-requires c κs = search (fits-more endOfWord end-of-word-inside, words-fit)
 
--- src/find.rt:59:25
 enum-told : tie.Need-enum-told
 enum-told c = search needs
 
--- src/find.rt:59:25
 end-of-word-requires-2 : tie.Need-end-of-word-requires-2
 end-of-word-requires-2 c κs = search needs
 
--- src/find.rt:54:1
 returns : tie.Need-returns
 returns c = search exists-yes
 
--- src/find.rt:54:1
 returns-2 : tie.Need-returns-2
 returns-2 c = search exists-no
 

@@ -1,41 +1,29 @@
-use Rattle.reserved.proofs.Walking.{gap-none, gap-taken, letter-none, letter-taken, letter-other}
 use borrow.Author.Needs.{needs}
+use Rattle.reserved.proofs.Walking.{gap-none, gap-taken, letter-none, letter-taken, letter-other}
 use Rattle.reserved.proofs.find.word_step.Statement.{statement}
 use Rattle.reserved.proofs.find.word_step.Tie as tie
-use Rattle.reserved.proofs.find.word_step.Reads as reads
-use Rattle.reserved.proofs.find.word_step.Lts as lts
-use Rattle.recognisers.proofs.capital_of.Reads as capital-of-reads
-use Rattle.unicode.proofs.run_of.Reads as run-of-reads
 
--- src/find.rt:22:13
 run-of-requires : tie.Need-run-of-requires
 run-of-requires c κs = search needs
 
--- src/find.rt:24:13
 returns : tie.Need-returns
 returns c = search gap-none
 
--- src/find.rt:26:9
 returns-2 : tie.Need-returns-2
 returns-2 c = search gap-taken
 
--- src/find.rt:29:9
 returns-3 : tie.Need-returns-3
 returns-3 c = search letter-none
 
--- src/find.rt:31:19
 shared-slice-read-capital-of : tie.Need-shared-slice-read-capital-of
 shared-slice-read-capital-of c = search needs
 
--- src/find.rt:31:8
 capital-of-requires : tie.Need-capital-of-requires
 capital-of-requires c κs = search needs
 
--- src/find.rt:32:9
 returns-4 : tie.Need-returns-4
 returns-4 c = search letter-taken
 
--- src/find.rt:18:1
 returns-5 : tie.Need-returns-5
 returns-5 c = search letter-other
 

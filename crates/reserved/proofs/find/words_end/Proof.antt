@@ -1,12 +1,9 @@
 use Prim.Native.Nat.{_-_}
 use lib.ListN.{length}
-use Rattle.reserved.proofs.Walking.{WalkAt, walk-start, walk-fails, walk-fits, walk-more, walk-end}
 use borrow.Author.Needs.{needs}
+use Rattle.reserved.proofs.Walking.{WalkAt, walk-start, walk-fails, walk-fits, walk-more, walk-end}
 use Rattle.reserved.proofs.find.words_end.Statement.{statement}
 use Rattle.reserved.proofs.find.words_end.Tie as tie
-use Rattle.reserved.proofs.find.words_end.Reads as reads
-use Rattle.reserved.proofs.find.words_end.Lts as lts
-use Rattle.reserved.proofs.find.word_step.Reads as word-step-reads
 
 abbrev Inv-loop : tie.InvT-loop
 Inv-loop rest words at₀ i₀ at i = WalkAt words rest at i
@@ -14,59 +11,45 @@ Inv-loop rest words at₀ i₀ at i = WalkAt words rest at i
 abbrev μ-loop : tie.MeasureT-loop
 μ-loop rest words at₀ i₀ at i = length words - i
 
--- src/find.rt:43:5
 loop-holds : tie.Need-loop-holds Inv-loop μ-loop
 loop-holds c = search walk-start
 
--- src/find.rt:44:41
 sub-word-step : tie.Need-sub-word-step Inv-loop μ-loop
 sub-word-step c = search needs
 
--- src/find.rt:44:41
 part-word-step-start : tie.Need-part-word-step-start Inv-loop μ-loop
 part-word-step-start c = search needs
 
--- src/find.rt:44:41
 part-word-step-end : tie.Need-part-word-step-end Inv-loop μ-loop
 part-word-step-end c = search needs
 
--- src/find.rt:44:54
 shared-slice-read-word-step : tie.Need-shared-slice-read-word-step Inv-loop μ-loop
 shared-slice-read-word-step c = search needs
 
--- src/find.rt:44:31
 word-step-requires : tie.Need-word-step-requires Inv-loop μ-loop
 word-step-requires c κs = search needs
 
--- src/find.rt:44:26
 enum-known-n : tie.Need-enum-known-n Inv-loop μ-loop
 enum-known-n c = search needs
 
--- src/find.rt:45:13
 enum-told : tie.Need-enum-told Inv-loop μ-loop
 enum-told c = search needs
 
--- src/find.rt:45:13
 returns : tie.Need-returns Inv-loop μ-loop
 returns c = search walk-fails
 
--- src/find.rt:47:9
 add-at : tie.Need-add-at Inv-loop μ-loop
 add-at c = search walk-fits
 
--- src/find.rt:48:9
 add-i : tie.Need-add-i Inv-loop μ-loop
 add-i c = search needs
 
--- src/find.rt:43:5
 loop-less : tie.Need-loop-less Inv-loop μ-loop
 loop-less c = search needs
 
--- src/find.rt:43:5
 loop-again : tie.Need-loop-again Inv-loop μ-loop
 loop-again c = search walk-more
 
--- src/find.rt:38:1
 returns-2 : tie.Need-returns-2 Inv-loop μ-loop
 returns-2 c = search walk-end
 

@@ -1,8 +1,9 @@
 use Prim.Native.Nat.{ℕ}
-use mathlib.Core.List.{List, [], _∷_}
-use Rattle.recognisers.specs.Taking.{contains}
-use mathlib.Core.Path.{refl}
 use native.Mathlib.Omega.{arith}
+use mathlib.Core.List.{List, [], _∷_}
+use mathlib.Core.Path.{refl}
+use borrow.Author.Needs.{needs}
+use Rattle.recognisers.specs.Taking.{contains}
 use Rattle.reserved.specs.Phrases.{each}
 use Rattle.reserved.specs.TopLevel.{creatable, alterableOrDroppable, eachDropped, topLevelPhrases}
 use Rattle.reserved.specs.NewlineAfter.{newlineAfterPhrases}
@@ -12,365 +13,278 @@ use Rattle.reserved.specs.NoIndent.{noIndentPhrases}
 use Rattle.reserved.specs.Plain.{plainTwoPhrases, plainOnePhrases, plainA, plainB, plainC, plainD, plainE, plainF, plainG, plainH, plainI, plainK, plainL, plainM, plainN, plainO, plainP, plainQ, plainR, plainS, plainT, plainU, plainV, plainW, plainY}
 use Rattle.reserved.specs.Entries.{grouped, entries, encoded, entriesOf}
 use Rattle.reserved.proofs.Finding.{letter-is, none-is, empty-is}
-use borrow.Author.Needs.{needs}
 use Rattle.reserved.proofs.tables.find_phrase.Statement.{statement}
 use Rattle.reserved.proofs.tables.find_phrase.Tie as tie
-use Rattle.reserved.proofs.tables.find_phrase.Reads as reads
-use Rattle.reserved.proofs.tables.find_phrase.Lts as lts
-use Rattle.recognisers.proofs.capital_of.Reads as capital-of-reads
-use Rattle.reserved.proofs.find.find_in.Reads as find-in-reads
 
--- src/tables.rt:83:9
 returns : tie.Need-returns
 returns c = search empty-is
 
--- src/tables.rt:85:29
 shared-slice-read-capital-of : tie.Need-shared-slice-read-capital-of
 shared-slice-read-capital-of c = search needs
 
--- src/tables.rt:85:9
 capital-of-requires : tie.Need-capital-of-requires
 capital-of-requires c κs = search needs
 
--- src/tables.rt:89:21
 slice-aggregate-find-in : tie.Need-slice-aggregate-find-in
 slice-aggregate-find-in c = search needs
 
--- src/tables.rt:89:13
 find-in-requires : tie.Need-find-in-requires
 find-in-requires c κs = search needs
 
--- src/tables.rt:93:21
 slice-aggregate-find-in-2 : tie.Need-slice-aggregate-find-in-2
 slice-aggregate-find-in-2 c = search needs
 
--- src/tables.rt:93:13
 find-in-requires-2 : tie.Need-find-in-requires-2
 find-in-requires-2 c κs = search needs
 
--- src/tables.rt:97:21
 slice-aggregate-find-in-3 : tie.Need-slice-aggregate-find-in-3
 slice-aggregate-find-in-3 c = search needs
 
--- src/tables.rt:97:13
 find-in-requires-3 : tie.Need-find-in-requires-3
 find-in-requires-3 c κs = search needs
 
--- src/tables.rt:101:21
 slice-aggregate-find-in-4 : tie.Need-slice-aggregate-find-in-4
 slice-aggregate-find-in-4 c = search needs
 
--- src/tables.rt:101:13
 find-in-requires-4 : tie.Need-find-in-requires-4
 find-in-requires-4 c κs = search needs
 
--- src/tables.rt:105:21
 slice-aggregate-find-in-5 : tie.Need-slice-aggregate-find-in-5
 slice-aggregate-find-in-5 c = search needs
 
--- src/tables.rt:105:13
 find-in-requires-5 : tie.Need-find-in-requires-5
 find-in-requires-5 c κs = search needs
 
--- src/tables.rt:109:21
 slice-aggregate-find-in-6 : tie.Need-slice-aggregate-find-in-6
 slice-aggregate-find-in-6 c = search needs
 
--- src/tables.rt:109:13
 find-in-requires-6 : tie.Need-find-in-requires-6
 find-in-requires-6 c κs = search needs
 
--- src/tables.rt:113:21
 slice-aggregate-find-in-7 : tie.Need-slice-aggregate-find-in-7
 slice-aggregate-find-in-7 c = search needs
 
--- src/tables.rt:113:13
 find-in-requires-7 : tie.Need-find-in-requires-7
 find-in-requires-7 c κs = search needs
 
--- src/tables.rt:117:21
 slice-aggregate-find-in-8 : tie.Need-slice-aggregate-find-in-8
 slice-aggregate-find-in-8 c = search needs
 
--- src/tables.rt:117:13
 find-in-requires-8 : tie.Need-find-in-requires-8
 find-in-requires-8 c κs = search needs
 
--- src/tables.rt:121:21
 slice-aggregate-find-in-9 : tie.Need-slice-aggregate-find-in-9
 slice-aggregate-find-in-9 c = search needs
 
--- src/tables.rt:121:13
 find-in-requires-9 : tie.Need-find-in-requires-9
 find-in-requires-9 c κs = search needs
 
--- src/tables.rt:125:21
 slice-aggregate-find-in-10 : tie.Need-slice-aggregate-find-in-10
 slice-aggregate-find-in-10 c = search needs
 
--- src/tables.rt:125:13
 find-in-requires-10 : tie.Need-find-in-requires-10
 find-in-requires-10 c κs = search needs
 
--- src/tables.rt:129:21
 slice-aggregate-find-in-11 : tie.Need-slice-aggregate-find-in-11
 slice-aggregate-find-in-11 c = search needs
 
--- src/tables.rt:129:13
 find-in-requires-11 : tie.Need-find-in-requires-11
 find-in-requires-11 c κs = search needs
 
--- src/tables.rt:133:21
 slice-aggregate-find-in-12 : tie.Need-slice-aggregate-find-in-12
 slice-aggregate-find-in-12 c = search needs
 
--- src/tables.rt:133:13
 find-in-requires-12 : tie.Need-find-in-requires-12
 find-in-requires-12 c κs = search needs
 
--- src/tables.rt:137:21
 slice-aggregate-find-in-13 : tie.Need-slice-aggregate-find-in-13
 slice-aggregate-find-in-13 c = search needs
 
--- src/tables.rt:137:13
 find-in-requires-13 : tie.Need-find-in-requires-13
 find-in-requires-13 c κs = search needs
 
--- src/tables.rt:141:21
 slice-aggregate-find-in-14 : tie.Need-slice-aggregate-find-in-14
 slice-aggregate-find-in-14 c = search needs
 
--- src/tables.rt:141:13
 find-in-requires-14 : tie.Need-find-in-requires-14
 find-in-requires-14 c κs = search needs
 
--- src/tables.rt:145:21
 slice-aggregate-find-in-15 : tie.Need-slice-aggregate-find-in-15
 slice-aggregate-find-in-15 c = search needs
 
--- src/tables.rt:145:13
 find-in-requires-15 : tie.Need-find-in-requires-15
 find-in-requires-15 c κs = search needs
 
--- src/tables.rt:149:21
 slice-aggregate-find-in-16 : tie.Need-slice-aggregate-find-in-16
 slice-aggregate-find-in-16 c = search needs
 
--- src/tables.rt:149:13
 find-in-requires-16 : tie.Need-find-in-requires-16
 find-in-requires-16 c κs = search needs
 
--- src/tables.rt:153:21
 slice-aggregate-find-in-17 : tie.Need-slice-aggregate-find-in-17
 slice-aggregate-find-in-17 c = search needs
 
--- src/tables.rt:153:13
 find-in-requires-17 : tie.Need-find-in-requires-17
 find-in-requires-17 c κs = search needs
 
--- src/tables.rt:157:21
 slice-aggregate-find-in-18 : tie.Need-slice-aggregate-find-in-18
 slice-aggregate-find-in-18 c = search needs
 
--- src/tables.rt:157:13
 find-in-requires-18 : tie.Need-find-in-requires-18
 find-in-requires-18 c κs = search needs
 
--- src/tables.rt:161:21
 slice-aggregate-find-in-19 : tie.Need-slice-aggregate-find-in-19
 slice-aggregate-find-in-19 c = search needs
 
--- src/tables.rt:161:13
 find-in-requires-19 : tie.Need-find-in-requires-19
 find-in-requires-19 c κs = search needs
 
--- src/tables.rt:165:21
 slice-aggregate-find-in-20 : tie.Need-slice-aggregate-find-in-20
 slice-aggregate-find-in-20 c = search needs
 
--- src/tables.rt:165:13
 find-in-requires-20 : tie.Need-find-in-requires-20
 find-in-requires-20 c κs = search needs
 
--- src/tables.rt:169:21
 slice-aggregate-find-in-21 : tie.Need-slice-aggregate-find-in-21
 slice-aggregate-find-in-21 c = search needs
 
--- src/tables.rt:169:13
 find-in-requires-21 : tie.Need-find-in-requires-21
 find-in-requires-21 c κs = search needs
 
--- src/tables.rt:173:21
 slice-aggregate-find-in-22 : tie.Need-slice-aggregate-find-in-22
 slice-aggregate-find-in-22 c = search needs
 
--- src/tables.rt:173:13
 find-in-requires-22 : tie.Need-find-in-requires-22
 find-in-requires-22 c κs = search needs
 
--- src/tables.rt:177:21
 slice-aggregate-find-in-23 : tie.Need-slice-aggregate-find-in-23
 slice-aggregate-find-in-23 c = search needs
 
--- src/tables.rt:177:13
 find-in-requires-23 : tie.Need-find-in-requires-23
 find-in-requires-23 c κs = search needs
 
--- src/tables.rt:181:21
 slice-aggregate-find-in-24 : tie.Need-slice-aggregate-find-in-24
 slice-aggregate-find-in-24 c = search needs
 
--- src/tables.rt:181:13
 find-in-requires-24 : tie.Need-find-in-requires-24
 find-in-requires-24 c κs = search needs
 
--- src/tables.rt:185:21
 slice-aggregate-find-in-25 : tie.Need-slice-aggregate-find-in-25
 slice-aggregate-find-in-25 c = search needs
 
--- src/tables.rt:185:13
 find-in-requires-25 : tie.Need-find-in-requires-25
 find-in-requires-25 c κs = search needs
 
--- src/tables.rt:189:21
 slice-aggregate-find-in-26 : tie.Need-slice-aggregate-find-in-26
 slice-aggregate-find-in-26 c = search needs
 
--- src/tables.rt:189:13
 find-in-requires-26 : tie.Need-find-in-requires-26
 find-in-requires-26 c κs = search needs
 
--- src/tables.rt:79:1
 returns-2 : tie.Need-returns-2
 unfolding entries encoded entriesOf grouped topLevelPhrases creatable alterableOrDroppable each eachDropped newlineAfterPhrases newlinePhrases joinPhrases noIndentPhrases plainTwoPhrases plainOnePhrases plainA plainB plainC plainD plainE plainF plainG plainH plainI plainK plainL plainM plainN plainO plainP plainQ plainR plainS plainT plainU plainV plainW plainY
 returns-2 c = letter-is _ _ (c .before .before .before .capital-of .ensures) 36 _ (c .before .before .match .keys1) (c .find-in .ensures)
 
--- src/tables.rt:79:1
 returns-3 : tie.Need-returns-3
 unfolding entries encoded entriesOf grouped topLevelPhrases creatable alterableOrDroppable each eachDropped newlineAfterPhrases newlinePhrases joinPhrases noIndentPhrases plainTwoPhrases plainOnePhrases plainA plainB plainC plainD plainE plainF plainG plainH plainI plainK plainL plainM plainN plainO plainP plainQ plainR plainS plainT plainU plainV plainW plainY
 returns-3 c = letter-is _ _ (c .before .before .before .capital-of .ensures) 65 _ (c .before .before .match .keys2) (c .find-in2 .ensures)
 
--- src/tables.rt:79:1
 returns-4 : tie.Need-returns-4
 unfolding entries encoded entriesOf grouped topLevelPhrases creatable alterableOrDroppable each eachDropped newlineAfterPhrases newlinePhrases joinPhrases noIndentPhrases plainTwoPhrases plainOnePhrases plainA plainB plainC plainD plainE plainF plainG plainH plainI plainK plainL plainM plainN plainO plainP plainQ plainR plainS plainT plainU plainV plainW plainY
 returns-4 c = letter-is _ _ (c .before .before .before .capital-of .ensures) 66 _ (c .before .before .match .keys3) (c .find-in3 .ensures)
 
--- src/tables.rt:79:1
 returns-5 : tie.Need-returns-5
 unfolding entries encoded entriesOf grouped topLevelPhrases creatable alterableOrDroppable each eachDropped newlineAfterPhrases newlinePhrases joinPhrases noIndentPhrases plainTwoPhrases plainOnePhrases plainA plainB plainC plainD plainE plainF plainG plainH plainI plainK plainL plainM plainN plainO plainP plainQ plainR plainS plainT plainU plainV plainW plainY
 returns-5 c = letter-is _ _ (c .before .before .before .capital-of .ensures) 67 _ (c .before .before .match .keys4) (c .find-in4 .ensures)
 
--- src/tables.rt:79:1
 returns-6 : tie.Need-returns-6
 unfolding entries encoded entriesOf grouped topLevelPhrases creatable alterableOrDroppable each eachDropped newlineAfterPhrases newlinePhrases joinPhrases noIndentPhrases plainTwoPhrases plainOnePhrases plainA plainB plainC plainD plainE plainF plainG plainH plainI plainK plainL plainM plainN plainO plainP plainQ plainR plainS plainT plainU plainV plainW plainY
 returns-6 c = letter-is _ _ (c .before .before .before .capital-of .ensures) 68 _ (c .before .before .match .keys5) (c .find-in5 .ensures)
 
--- src/tables.rt:79:1
 returns-7 : tie.Need-returns-7
 unfolding entries encoded entriesOf grouped topLevelPhrases creatable alterableOrDroppable each eachDropped newlineAfterPhrases newlinePhrases joinPhrases noIndentPhrases plainTwoPhrases plainOnePhrases plainA plainB plainC plainD plainE plainF plainG plainH plainI plainK plainL plainM plainN plainO plainP plainQ plainR plainS plainT plainU plainV plainW plainY
 returns-7 c = letter-is _ _ (c .before .before .before .capital-of .ensures) 69 _ (c .before .before .match .keys6) (c .find-in6 .ensures)
 
--- src/tables.rt:79:1
 returns-8 : tie.Need-returns-8
 unfolding entries encoded entriesOf grouped topLevelPhrases creatable alterableOrDroppable each eachDropped newlineAfterPhrases newlinePhrases joinPhrases noIndentPhrases plainTwoPhrases plainOnePhrases plainA plainB plainC plainD plainE plainF plainG plainH plainI plainK plainL plainM plainN plainO plainP plainQ plainR plainS plainT plainU plainV plainW plainY
 returns-8 c = letter-is _ _ (c .before .before .before .capital-of .ensures) 70 _ (c .before .before .match .keys7) (c .find-in7 .ensures)
 
--- src/tables.rt:79:1
 returns-9 : tie.Need-returns-9
 unfolding entries encoded entriesOf grouped topLevelPhrases creatable alterableOrDroppable each eachDropped newlineAfterPhrases newlinePhrases joinPhrases noIndentPhrases plainTwoPhrases plainOnePhrases plainA plainB plainC plainD plainE plainF plainG plainH plainI plainK plainL plainM plainN plainO plainP plainQ plainR plainS plainT plainU plainV plainW plainY
 returns-9 c = letter-is _ _ (c .before .before .before .capital-of .ensures) 71 _ (c .before .before .match .keys8) (c .find-in8 .ensures)
 
--- src/tables.rt:79:1
 returns-10 : tie.Need-returns-10
 unfolding entries encoded entriesOf grouped topLevelPhrases creatable alterableOrDroppable each eachDropped newlineAfterPhrases newlinePhrases joinPhrases noIndentPhrases plainTwoPhrases plainOnePhrases plainA plainB plainC plainD plainE plainF plainG plainH plainI plainK plainL plainM plainN plainO plainP plainQ plainR plainS plainT plainU plainV plainW plainY
 returns-10 c = letter-is _ _ (c .before .before .before .capital-of .ensures) 72 _ (c .before .before .match .keys9) (c .find-in9 .ensures)
 
--- src/tables.rt:79:1
 returns-11 : tie.Need-returns-11
 unfolding entries encoded entriesOf grouped topLevelPhrases creatable alterableOrDroppable each eachDropped newlineAfterPhrases newlinePhrases joinPhrases noIndentPhrases plainTwoPhrases plainOnePhrases plainA plainB plainC plainD plainE plainF plainG plainH plainI plainK plainL plainM plainN plainO plainP plainQ plainR plainS plainT plainU plainV plainW plainY
 returns-11 c = letter-is _ _ (c .before .before .before .capital-of .ensures) 73 _ (c .before .before .match .keys10) (c .find-in10 .ensures)
 
--- src/tables.rt:79:1
 returns-12 : tie.Need-returns-12
 unfolding entries encoded entriesOf grouped topLevelPhrases creatable alterableOrDroppable each eachDropped newlineAfterPhrases newlinePhrases joinPhrases noIndentPhrases plainTwoPhrases plainOnePhrases plainA plainB plainC plainD plainE plainF plainG plainH plainI plainK plainL plainM plainN plainO plainP plainQ plainR plainS plainT plainU plainV plainW plainY
 returns-12 c = letter-is _ _ (c .before .before .before .capital-of .ensures) 74 _ (c .before .before .match .keys11) (c .find-in11 .ensures)
 
--- src/tables.rt:79:1
 returns-13 : tie.Need-returns-13
 unfolding entries encoded entriesOf grouped topLevelPhrases creatable alterableOrDroppable each eachDropped newlineAfterPhrases newlinePhrases joinPhrases noIndentPhrases plainTwoPhrases plainOnePhrases plainA plainB plainC plainD plainE plainF plainG plainH plainI plainK plainL plainM plainN plainO plainP plainQ plainR plainS plainT plainU plainV plainW plainY
 returns-13 c = letter-is _ _ (c .before .before .before .capital-of .ensures) 75 _ (c .before .before .match .keys12) (c .find-in12 .ensures)
 
--- src/tables.rt:79:1
 returns-14 : tie.Need-returns-14
 unfolding entries encoded entriesOf grouped topLevelPhrases creatable alterableOrDroppable each eachDropped newlineAfterPhrases newlinePhrases joinPhrases noIndentPhrases plainTwoPhrases plainOnePhrases plainA plainB plainC plainD plainE plainF plainG plainH plainI plainK plainL plainM plainN plainO plainP plainQ plainR plainS plainT plainU plainV plainW plainY
 returns-14 c = letter-is _ _ (c .before .before .before .capital-of .ensures) 76 _ (c .before .before .match .keys13) (c .find-in13 .ensures)
 
--- src/tables.rt:79:1
 returns-15 : tie.Need-returns-15
 unfolding entries encoded entriesOf grouped topLevelPhrases creatable alterableOrDroppable each eachDropped newlineAfterPhrases newlinePhrases joinPhrases noIndentPhrases plainTwoPhrases plainOnePhrases plainA plainB plainC plainD plainE plainF plainG plainH plainI plainK plainL plainM plainN plainO plainP plainQ plainR plainS plainT plainU plainV plainW plainY
 returns-15 c = letter-is _ _ (c .before .before .before .capital-of .ensures) 77 _ (c .before .before .match .keys14) (c .find-in14 .ensures)
 
--- src/tables.rt:79:1
 returns-16 : tie.Need-returns-16
 unfolding entries encoded entriesOf grouped topLevelPhrases creatable alterableOrDroppable each eachDropped newlineAfterPhrases newlinePhrases joinPhrases noIndentPhrases plainTwoPhrases plainOnePhrases plainA plainB plainC plainD plainE plainF plainG plainH plainI plainK plainL plainM plainN plainO plainP plainQ plainR plainS plainT plainU plainV plainW plainY
 returns-16 c = letter-is _ _ (c .before .before .before .capital-of .ensures) 78 _ (c .before .before .match .keys15) (c .find-in15 .ensures)
 
--- src/tables.rt:79:1
 returns-17 : tie.Need-returns-17
 unfolding entries encoded entriesOf grouped topLevelPhrases creatable alterableOrDroppable each eachDropped newlineAfterPhrases newlinePhrases joinPhrases noIndentPhrases plainTwoPhrases plainOnePhrases plainA plainB plainC plainD plainE plainF plainG plainH plainI plainK plainL plainM plainN plainO plainP plainQ plainR plainS plainT plainU plainV plainW plainY
 returns-17 c = letter-is _ _ (c .before .before .before .capital-of .ensures) 79 _ (c .before .before .match .keys16) (c .find-in16 .ensures)
 
--- src/tables.rt:79:1
 returns-18 : tie.Need-returns-18
 unfolding entries encoded entriesOf grouped topLevelPhrases creatable alterableOrDroppable each eachDropped newlineAfterPhrases newlinePhrases joinPhrases noIndentPhrases plainTwoPhrases plainOnePhrases plainA plainB plainC plainD plainE plainF plainG plainH plainI plainK plainL plainM plainN plainO plainP plainQ plainR plainS plainT plainU plainV plainW plainY
 returns-18 c = letter-is _ _ (c .before .before .before .capital-of .ensures) 80 _ (c .before .before .match .keys17) (c .find-in17 .ensures)
 
--- src/tables.rt:79:1
 returns-19 : tie.Need-returns-19
 unfolding entries encoded entriesOf grouped topLevelPhrases creatable alterableOrDroppable each eachDropped newlineAfterPhrases newlinePhrases joinPhrases noIndentPhrases plainTwoPhrases plainOnePhrases plainA plainB plainC plainD plainE plainF plainG plainH plainI plainK plainL plainM plainN plainO plainP plainQ plainR plainS plainT plainU plainV plainW plainY
 returns-19 c = letter-is _ _ (c .before .before .before .capital-of .ensures) 81 _ (c .before .before .match .keys18) (c .find-in18 .ensures)
 
--- src/tables.rt:79:1
 returns-20 : tie.Need-returns-20
 unfolding entries encoded entriesOf grouped topLevelPhrases creatable alterableOrDroppable each eachDropped newlineAfterPhrases newlinePhrases joinPhrases noIndentPhrases plainTwoPhrases plainOnePhrases plainA plainB plainC plainD plainE plainF plainG plainH plainI plainK plainL plainM plainN plainO plainP plainQ plainR plainS plainT plainU plainV plainW plainY
 returns-20 c = letter-is _ _ (c .before .before .before .capital-of .ensures) 82 _ (c .before .before .match .keys19) (c .find-in19 .ensures)
 
--- src/tables.rt:79:1
 returns-21 : tie.Need-returns-21
 unfolding entries encoded entriesOf grouped topLevelPhrases creatable alterableOrDroppable each eachDropped newlineAfterPhrases newlinePhrases joinPhrases noIndentPhrases plainTwoPhrases plainOnePhrases plainA plainB plainC plainD plainE plainF plainG plainH plainI plainK plainL plainM plainN plainO plainP plainQ plainR plainS plainT plainU plainV plainW plainY
 returns-21 c = letter-is _ _ (c .before .before .before .capital-of .ensures) 83 _ (c .before .before .match .keys20) (c .find-in20 .ensures)
 
--- src/tables.rt:79:1
 returns-22 : tie.Need-returns-22
 unfolding entries encoded entriesOf grouped topLevelPhrases creatable alterableOrDroppable each eachDropped newlineAfterPhrases newlinePhrases joinPhrases noIndentPhrases plainTwoPhrases plainOnePhrases plainA plainB plainC plainD plainE plainF plainG plainH plainI plainK plainL plainM plainN plainO plainP plainQ plainR plainS plainT plainU plainV plainW plainY
 returns-22 c = letter-is _ _ (c .before .before .before .capital-of .ensures) 84 _ (c .before .before .match .keys21) (c .find-in21 .ensures)
 
--- src/tables.rt:79:1
 returns-23 : tie.Need-returns-23
 unfolding entries encoded entriesOf grouped topLevelPhrases creatable alterableOrDroppable each eachDropped newlineAfterPhrases newlinePhrases joinPhrases noIndentPhrases plainTwoPhrases plainOnePhrases plainA plainB plainC plainD plainE plainF plainG plainH plainI plainK plainL plainM plainN plainO plainP plainQ plainR plainS plainT plainU plainV plainW plainY
 returns-23 c = letter-is _ _ (c .before .before .before .capital-of .ensures) 85 _ (c .before .before .match .keys22) (c .find-in22 .ensures)
 
--- src/tables.rt:79:1
 returns-24 : tie.Need-returns-24
 unfolding entries encoded entriesOf grouped topLevelPhrases creatable alterableOrDroppable each eachDropped newlineAfterPhrases newlinePhrases joinPhrases noIndentPhrases plainTwoPhrases plainOnePhrases plainA plainB plainC plainD plainE plainF plainG plainH plainI plainK plainL plainM plainN plainO plainP plainQ plainR plainS plainT plainU plainV plainW plainY
 returns-24 c = letter-is _ _ (c .before .before .before .capital-of .ensures) 86 _ (c .before .before .match .keys23) (c .find-in23 .ensures)
 
--- src/tables.rt:79:1
 returns-25 : tie.Need-returns-25
 unfolding entries encoded entriesOf grouped topLevelPhrases creatable alterableOrDroppable each eachDropped newlineAfterPhrases newlinePhrases joinPhrases noIndentPhrases plainTwoPhrases plainOnePhrases plainA plainB plainC plainD plainE plainF plainG plainH plainI plainK plainL plainM plainN plainO plainP plainQ plainR plainS plainT plainU plainV plainW plainY
 returns-25 c = letter-is _ _ (c .before .before .before .capital-of .ensures) 87 _ (c .before .before .match .keys24) (c .find-in24 .ensures)
 
--- src/tables.rt:79:1
 returns-26 : tie.Need-returns-26
 unfolding entries encoded entriesOf grouped topLevelPhrases creatable alterableOrDroppable each eachDropped newlineAfterPhrases newlinePhrases joinPhrases noIndentPhrases plainTwoPhrases plainOnePhrases plainA plainB plainC plainD plainE plainF plainG plainH plainI plainK plainL plainM plainN plainO plainP plainQ plainR plainS plainT plainU plainV plainW plainY
 returns-26 c = letter-is _ _ (c .before .before .before .capital-of .ensures) 88 _ (c .before .before .match .keys25) (c .find-in25 .ensures)
 
--- src/tables.rt:79:1
 returns-27 : tie.Need-returns-27
 unfolding entries encoded entriesOf grouped topLevelPhrases creatable alterableOrDroppable each eachDropped newlineAfterPhrases newlinePhrases joinPhrases noIndentPhrases plainTwoPhrases plainOnePhrases plainA plainB plainC plainD plainE plainF plainG plainH plainI plainK plainL plainM plainN plainO plainP plainQ plainR plainS plainT plainU plainV plainW plainY
 returns-27 c = letter-is _ _ (c .before .before .before .capital-of .ensures) 89 _ (c .before .before .match .keys26) (c .find-in26 .ensures)
 
--- src/tables.rt:79:1
 letters : List ℕ
 letters = 89 ∷ 88 ∷ 87 ∷ 86 ∷ 85 ∷ 84 ∷ 83 ∷ 82 ∷ 81 ∷ 80 ∷ 79 ∷ 78 ∷ 77 ∷ 76 ∷ 75 ∷ 74 ∷ 73 ∷ 72 ∷ 71 ∷ 70 ∷ 69 ∷ 68 ∷ 67 ∷ 66 ∷ 65 ∷ 36 ∷ []
 

@@ -1,21 +1,15 @@
-use Rattle.reserved.specs.Reserved.{aliasLength}
 use borrow.Author.Needs.{needs}
+use Rattle.reserved.specs.Reserved.{aliasLength}
 use Rattle.reserved.proofs.words.alias_length.Statement.{statement}
 use Rattle.reserved.proofs.words.alias_length.Tie as tie
-use Rattle.reserved.proofs.words.alias_length.Reads as reads
-use Rattle.reserved.proofs.words.alias_length.Lts as lts
-use Rattle.reserved.proofs.words.has_short_alias.Reads as has-short-alias-reads
 
--- src/words.rt:114:8
 has-short-alias-requires : tie.Need-has-short-alias-requires
 has-short-alias-requires c κs = search needs
 
--- src/words.rt:115:9
 returns : tie.Need-returns
 unfolding aliasLength
 returns c = rw (← c .before .has-short-alias .ensures, c .if1 .taken)
 
--- src/words.rt:111:1
 returns-2 : tie.Need-returns-2
 unfolding aliasLength
 returns-2 c = rw (← c .before .has-short-alias .ensures, c .if1 .left)

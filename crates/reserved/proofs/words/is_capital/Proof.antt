@@ -1,17 +1,12 @@
 use borrow.Author.Tests.{le-leb, lt-leb}
 use Rattle.unicode.specs.Ranges.{within}
-use borrow.Author.Needs.{needs}
 use Rattle.reserved.proofs.words.is_capital.Statement.{statement}
 use Rattle.reserved.proofs.words.is_capital.Tie as tie
-use Rattle.reserved.proofs.words.is_capital.Reads as reads
-use Rattle.reserved.proofs.words.is_capital.Lts as lts
 
--- src/words.rt:165:1
 returns : tie.Need-returns
 unfolding within
 returns c = rw (le-leb _ _ (c .if1 .taken))
 
--- src/words.rt:165:1
 returns-2 : tie.Need-returns-2
 unfolding within
 returns-2 c = rw (lt-leb _ _ (c .if1 .left))

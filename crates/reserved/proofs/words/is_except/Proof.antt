@@ -1,29 +1,20 @@
-use Rattle.recognisers.proofs.Cases.{and-first, and-second}
 use borrow.Author.Needs.{needs}
+use Rattle.recognisers.proofs.Cases.{and-first, and-second}
 use Rattle.reserved.proofs.words.is_except.Statement.{statement}
 use Rattle.reserved.proofs.words.is_except.Tie as tie
-use Rattle.reserved.proofs.words.is_except.Reads as reads
-use Rattle.reserved.proofs.words.is_except.Lts as lts
-use Rattle.reserved.proofs.words.is_exactly.Reads as is-exactly-reads
-use Rattle.reserved.proofs.words.is_select.Reads as is-select-reads
 
--- src/words.rt:75:23
 slice-aggregate-is-exactly : tie.Need-slice-aggregate-is-exactly
 slice-aggregate-is-exactly c = search needs
 
--- src/words.rt:75:5
 is-exactly-requires : tie.Need-is-exactly-requires
 is-exactly-requires c κs = search needs
 
--- src/words.rt:75:37
 is-select-requires : tie.Need-is-select-requires
 is-select-requires c κs = search needs
 
--- src/words.rt:72:1
 returns : tie.Need-returns
 returns c = search and-second
 
--- src/words.rt:72:1
 returns-2 : tie.Need-returns-2
 returns-2 c = search and-first
 

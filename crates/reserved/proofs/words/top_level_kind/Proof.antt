@@ -1,41 +1,29 @@
-use Rattle.reserved.specs.Reserved.{topLevelKind}
 use borrow.Author.Needs.{needs}
+use Rattle.reserved.specs.Reserved.{topLevelKind}
 use Rattle.reserved.proofs.words.top_level_kind.Statement.{statement}
 use Rattle.reserved.proofs.words.top_level_kind.Tie as tie
-use Rattle.reserved.proofs.words.top_level_kind.Reads as reads
-use Rattle.reserved.proofs.words.top_level_kind.Lts as lts
-use Rattle.reserved.proofs.words.is_except.Reads as is-except-reads
-use Rattle.reserved.proofs.words.is_set.Reads as is-set-reads
-use Rattle.reserved.proofs.words.is_using.Reads as is-using-reads
 
--- src/words.rt:93:8
 is-except-requires : tie.Need-is-except-requires
 is-except-requires c κs = search needs
 
--- src/words.rt:94:9
 returns : tie.Need-returns
 unfolding topLevelKind
 returns c = rw (← c .before .is-except .ensures, c .if1 .taken)
 
--- src/words.rt:96:8
 is-set-requires : tie.Need-is-set-requires
 is-set-requires c κs = search needs
 
--- src/words.rt:97:9
 returns-2 : tie.Need-returns-2
 unfolding topLevelKind
 returns-2 c = rw (← c .before .before .before .is-except .ensures, c .before .before .if1 .left, ← c .before .is-set .ensures, c .if2 .taken)
 
--- src/words.rt:99:8
 is-using-requires : tie.Need-is-using-requires
 is-using-requires c κs = search needs
 
--- src/words.rt:100:9
 returns-3 : tie.Need-returns-3
 unfolding topLevelKind
 returns-3 c = rw (← c .before .before .before .before .before .is-except .ensures, c .before .before .before .before .if1 .left, ← c .before .before .before .is-set .ensures, c .before .before .if2 .left, ← c .before .is-using .ensures, c .if3 .taken)
 
--- src/words.rt:90:1
 returns-4 : tie.Need-returns-4
 unfolding topLevelKind
 returns-4 c = rw (← c .before .before .before .before .before .is-except .ensures, c .before .before .before .before .if1 .left, ← c .before .before .before .is-set .ensures, c .before .before .if2 .left, ← c .before .is-using .ensures, c .if3 .left)

@@ -3,24 +3,16 @@ use lib.Seq.{length-take-le}
 use borrow.Author.Needs.{needs}
 use Rattle.reserved.proofs.words.top_level_token.Statement.{statement}
 use Rattle.reserved.proofs.words.top_level_token.Tie as tie
-use Rattle.reserved.proofs.words.top_level_token.Reads as reads
-use Rattle.reserved.proofs.words.top_level_token.Lts as lts
-use Rattle.reserved.proofs.words.alias_length.Reads as alias-length-reads
-use Rattle.reserved.proofs.words.top_level_kind.Reads as top-level-kind-reads
 
--- src/words.rt:124:9
 slice-aggregate-value : tie.Need-slice-aggregate-value
 slice-aggregate-value c = sym (length-take-le _ _ (c .before .before .pre))
 
--- src/words.rt:125:9
 top-level-kind-requires : tie.Need-top-level-kind-requires
 top-level-kind-requires c κs = search needs
 
--- src/words.rt:126:9
 alias-length-requires : tie.Need-alias-length-requires
 alias-length-requires c κs = search needs
 
--- src/words.rt:120:1
 returns : tie.Need-returns
 returns c = rw (c .before .top-level-kind .ensures, c .alias-length .ensures)
 

@@ -1,35 +1,25 @@
+use borrow.Author.Needs.{needs}
 use Rattle.tokenizer.specs.NextToken.{fromCloseParen}
 use Rattle.tokenizer.proofs.Choosing.{first-recognises, rest-recognises}
-use borrow.Author.Needs.{needs}
 use Rattle.tokenizer.proofs.choice.from_close_paren.Statement.{statement}
 use Rattle.tokenizer.proofs.choice.from_close_paren.Tie as tie
-use Rattle.tokenizer.proofs.choice.from_close_paren.Reads as reads
-use Rattle.tokenizer.proofs.choice.from_close_paren.Lts as lts
-use Rattle.recognisers.proofs.get_close_paren_token.Reads as get-close-paren-token-reads
-use Rattle.tokenizer.proofs.choice.from_number.Reads as from-number-reads
 
--- src/choice.rt:71:11
 get-close-paren-token-requires : tie.Need-get-close-paren-token-requires
 get-close-paren-token-requires c κs = search needs
 
--- src/choice.rt:72:27
 enum-known-piece : tie.Need-enum-known-piece
 enum-known-piece c = search needs
 
--- src/choice.rt:73:32
 enum-told : tie.Need-enum-told
 enum-told c = search needs
 
--- src/choice.rt:73:32
 from-number-requires : tie.Need-from-number-requires
 from-number-requires c κs = search needs
 
--- src/choice.rt:67:1
 returns : tie.Need-returns
 unfolding fromCloseParen
 returns c = search first-recognises
 
--- src/choice.rt:67:1
 returns-2 : tie.Need-returns-2
 unfolding fromCloseParen
 returns-2 c = search rest-recognises

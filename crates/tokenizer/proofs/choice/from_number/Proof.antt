@@ -1,35 +1,25 @@
+use borrow.Author.Needs.{needs}
 use Rattle.tokenizer.specs.NextToken.{fromNumber}
 use Rattle.tokenizer.proofs.Choosing.{first-recognises, rest-recognises}
-use borrow.Author.Needs.{needs}
 use Rattle.tokenizer.proofs.choice.from_number.Statement.{statement}
 use Rattle.tokenizer.proofs.choice.from_number.Tie as tie
-use Rattle.tokenizer.proofs.choice.from_number.Reads as reads
-use Rattle.tokenizer.proofs.choice.from_number.Lts as lts
-use Rattle.recognisers.proofs.get_number_token.Reads as get-number-token-reads
-use Rattle.tokenizer.proofs.choice.from_reserved.Reads as from-reserved-reads
 
--- src/choice.rt:61:11
 get-number-token-requires : tie.Need-get-number-token-requires
 get-number-token-requires c κs = search needs
 
--- src/choice.rt:62:27
 enum-known-piece : tie.Need-enum-known-piece
 enum-known-piece c = search needs
 
--- src/choice.rt:63:32
 enum-told : tie.Need-enum-told
 enum-told c = search needs
 
--- src/choice.rt:63:32
 from-reserved-requires : tie.Need-from-reserved-requires
 from-reserved-requires c κs = search needs
 
--- src/choice.rt:58:1
 returns : tie.Need-returns
 unfolding fromNumber
 returns c = search first-recognises
 
--- src/choice.rt:58:1
 returns-2 : tie.Need-returns-2
 unfolding fromNumber
 returns-2 c = search rest-recognises

@@ -1,30 +1,21 @@
-use Rattle.tokenizer.specs.Memory.{afterBetween}
 use borrow.Author.Needs.{needs}
+use Rattle.tokenizer.specs.Memory.{afterBetween}
 use Rattle.tokenizer.proofs.remembering.after_between.Statement.{statement}
 use Rattle.tokenizer.proofs.remembering.after_between.Tie as tie
-use Rattle.tokenizer.proofs.remembering.after_between.Reads as reads
-use Rattle.tokenizer.proofs.remembering.after_between.Lts as lts
-use Rattle.reserved.proofs.is_exactly.Reads as is-exactly-reads
-use Rattle.tokenizer.proofs.remembering.is_kind.Reads as is-kind-reads
 
--- src/remembering.rt:87:8
 is-kind-requires : tie.Need-is-kind-requires
 is-kind-requires c κs = search needs
 
--- src/remembering.rt:88:34
 slice-aggregate-is-exactly : tie.Need-slice-aggregate-is-exactly
 slice-aggregate-is-exactly c = search needs
 
--- src/remembering.rt:88:9
 is-exactly-requires : tie.Need-is-exactly-requires
 is-exactly-requires c κs = search needs
 
--- src/remembering.rt:88:9
 returns : tie.Need-returns
 unfolding afterBetween
 returns c = rw (← c .before .before .before .is-kind .ensures, c .before .before .if1 .taken) (c .is-exactly .ensures)
 
--- src/remembering.rt:84:1
 returns-2 : tie.Need-returns-2
 unfolding afterBetween
 returns-2 c = rw (← c .before .is-kind .ensures, c .if1 .left)

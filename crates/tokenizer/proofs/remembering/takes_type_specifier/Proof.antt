@@ -1,160 +1,124 @@
 use mathlib.Core.Path.{_≡_, refl}
-use Rattle.tokenizer.specs.Memory.{takesTypeSpecifier}
 use borrow.Author.Needs.{needs}
+use Rattle.tokenizer.specs.Memory.{takesTypeSpecifier}
 use Rattle.tokenizer.proofs.remembering.takes_type_specifier.Statement.{statement}
 use Rattle.tokenizer.proofs.remembering.takes_type_specifier.Tie as tie
-use Rattle.tokenizer.proofs.remembering.takes_type_specifier.Reads as reads
-use Rattle.tokenizer.proofs.remembering.takes_type_specifier.Lts as lts
 
--- src/remembering.rt:46:37
 enum-told : tie.Need-enum-told
 enum-told c = search needs
 
--- src/remembering.rt:47:34
 enum-told-2 : tie.Need-enum-told-2
 enum-told-2 c = search needs
 
--- src/remembering.rt:48:30
 enum-told-3 : tie.Need-enum-told-3
 enum-told-3 c = search needs
 
--- src/remembering.rt:49:32
 enum-told-4 : tie.Need-enum-told-4
 enum-told-4 c = search needs
 
--- src/remembering.rt:50:40
 enum-told-5 : tie.Need-enum-told-5
 enum-told-5 c = search needs
 
--- src/remembering.rt:51:48
 enum-told-6 : tie.Need-enum-told-6
 enum-told-6 c = search needs
 
--- src/remembering.rt:52:39
 enum-told-7 : tie.Need-enum-told-7
 enum-told-7 c = search needs
 
--- src/remembering.rt:53:44
 enum-told-8 : tie.Need-enum-told-8
 enum-told-8 c = search needs
 
--- src/remembering.rt:54:32
 enum-told-9 : tie.Need-enum-told-9
 enum-told-9 c = search needs
 
--- src/remembering.rt:55:33
 enum-told-10 : tie.Need-enum-told-10
 enum-told-10 c = search needs
 
--- src/remembering.rt:56:34
 enum-told-11 : tie.Need-enum-told-11
 enum-told-11 c = search needs
 
--- src/remembering.rt:57:35
 enum-told-12 : tie.Need-enum-told-12
 enum-told-12 c = search needs
 
--- src/remembering.rt:58:36
 enum-told-13 : tie.Need-enum-told-13
 enum-told-13 c = search needs
 
--- src/remembering.rt:59:30
 enum-told-14 : tie.Need-enum-told-14
 enum-told-14 c = search needs
 
--- src/remembering.rt:60:35
 enum-told-15 : tie.Need-enum-told-15
 enum-told-15 c = search needs
 
--- src/remembering.rt:61:28
 enum-told-16 : tie.Need-enum-told-16
 enum-told-16 c = search needs
 
--- src/remembering.rt:62:28
 enum-told-17 : tie.Need-enum-told-17
 enum-told-17 c = search needs
 
--- src/remembering.rt:42:1
 returns : tie.Need-returns
 unfolding takesTypeSpecifier
 returns c = rw (c .enum-told .given .1) refl
 
--- src/remembering.rt:42:1
 returns-2 : tie.Need-returns-2
 unfolding takesTypeSpecifier
 returns-2 c = rw (c .enum-told2 .given .1) refl
 
--- src/remembering.rt:42:1
 returns-3 : tie.Need-returns-3
 unfolding takesTypeSpecifier
 returns-3 c = rw (c .enum-told3 .given .1) refl
 
--- src/remembering.rt:42:1
 returns-4 : tie.Need-returns-4
 unfolding takesTypeSpecifier
 returns-4 c = rw (c .enum-told4 .given .1) refl
 
--- src/remembering.rt:42:1
 returns-5 : tie.Need-returns-5
 unfolding takesTypeSpecifier
 returns-5 c = rw (c .enum-told5 .given .1) refl
 
--- src/remembering.rt:42:1
 returns-6 : tie.Need-returns-6
 unfolding takesTypeSpecifier
 returns-6 c = rw (c .enum-told6 .given .1) refl
 
--- src/remembering.rt:42:1
 returns-7 : tie.Need-returns-7
 unfolding takesTypeSpecifier
 returns-7 c = rw (c .enum-told7 .given .1) refl
 
--- src/remembering.rt:42:1
 returns-8 : tie.Need-returns-8
 unfolding takesTypeSpecifier
 returns-8 c = rw (c .enum-told8 .given .1) refl
 
--- src/remembering.rt:42:1
 returns-9 : tie.Need-returns-9
 unfolding takesTypeSpecifier
 returns-9 c = rw (c .enum-told9 .given .1) refl
 
--- src/remembering.rt:42:1
 returns-10 : tie.Need-returns-10
 unfolding takesTypeSpecifier
 returns-10 c = rw (c .enum-told10 .given .1) refl
 
--- src/remembering.rt:42:1
 returns-11 : tie.Need-returns-11
 unfolding takesTypeSpecifier
 returns-11 c = rw (c .enum-told11 .given .1) refl
 
--- src/remembering.rt:42:1
 returns-12 : tie.Need-returns-12
 unfolding takesTypeSpecifier
 returns-12 c = rw (c .enum-told12 .given .1) refl
 
--- src/remembering.rt:42:1
 returns-13 : tie.Need-returns-13
 unfolding takesTypeSpecifier
 returns-13 c = rw (c .enum-told13 .given .1) refl
 
--- src/remembering.rt:42:1
 returns-14 : tie.Need-returns-14
 unfolding takesTypeSpecifier
 returns-14 c = rw (c .enum-told14 .given .1) refl
 
--- src/remembering.rt:42:1
 returns-15 : tie.Need-returns-15
 unfolding takesTypeSpecifier
 returns-15 c = rw (c .enum-told15 .given .1) refl
 
--- src/remembering.rt:42:1
 returns-16 : tie.Need-returns-16
 unfolding takesTypeSpecifier
 returns-16 c = rw (c .enum-told16 .given .1) refl
 
--- src/remembering.rt:42:1
 returns-17 : tie.Need-returns-17
 unfolding takesTypeSpecifier
 returns-17 c = rw (c .enum-told17 .given .1) refl

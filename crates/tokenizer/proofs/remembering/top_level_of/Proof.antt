@@ -1,64 +1,48 @@
-use Rattle.tokenizer.specs.Memory.{topLevelOf}
 use borrow.Author.Needs.{needs}
+use Rattle.tokenizer.specs.Memory.{topLevelOf}
 use Rattle.tokenizer.proofs.remembering.top_level_of.Statement.{statement}
 use Rattle.tokenizer.proofs.remembering.top_level_of.Tie as tie
-use Rattle.tokenizer.proofs.remembering.top_level_of.Reads as reads
-use Rattle.tokenizer.proofs.remembering.top_level_of.Lts as lts
-use Rattle.reserved.proofs.is_exactly.Reads as is-exactly-reads
 
--- src/remembering.rt:69:26
 slice-aggregate-is-exactly : tie.Need-slice-aggregate-is-exactly
 slice-aggregate-is-exactly c = search needs
 
--- src/remembering.rt:69:8
 is-exactly-requires : tie.Need-is-exactly-requires
 is-exactly-requires c κs = search needs
 
--- src/remembering.rt:70:9
 returns : tie.Need-returns
 unfolding topLevelOf
 returns c = rw (← c .before .is-exactly .ensures, c .if1 .taken)
 
--- src/remembering.rt:72:26
 slice-aggregate-is-exactly-2 : tie.Need-slice-aggregate-is-exactly-2
 slice-aggregate-is-exactly-2 c = search needs
 
--- src/remembering.rt:72:8
 is-exactly-requires-2 : tie.Need-is-exactly-requires-2
 is-exactly-requires-2 c κs = search needs
 
--- src/remembering.rt:73:9
 returns-2 : tie.Need-returns-2
 unfolding topLevelOf
 returns-2 c = rw (← c .before .before .before .before .is-exactly .ensures, c .before .before .before .if1 .left, ← c .before .is-exactly2 .ensures, c .if2 .taken)
 
--- src/remembering.rt:75:26
 slice-aggregate-is-exactly-3 : tie.Need-slice-aggregate-is-exactly-3
 slice-aggregate-is-exactly-3 c = search needs
 
--- src/remembering.rt:75:8
 is-exactly-requires-3 : tie.Need-is-exactly-requires-3
 is-exactly-requires-3 c κs = search needs
 
--- src/remembering.rt:76:9
 returns-3 : tie.Need-returns-3
 unfolding topLevelOf
 returns-3 c = rw (← c .before .before .before .before .before .before .before .is-exactly .ensures, c .before .before .before .before .before .before .if1 .left, ← c .before .before .before .before .is-exactly2 .ensures, c .before .before .before .if2 .left, ← c .before .is-exactly3 .ensures, c .if3 .taken)
 
--- src/remembering.rt:78:26
 slice-aggregate-is-exactly-4 : tie.Need-slice-aggregate-is-exactly-4
 slice-aggregate-is-exactly-4 c = search needs
 
--- src/remembering.rt:78:8
 is-exactly-requires-4 : tie.Need-is-exactly-requires-4
 is-exactly-requires-4 c κs = search needs
 
--- src/remembering.rt:79:9
 returns-4 : tie.Need-returns-4
 unfolding topLevelOf
 returns-4 c = rw (← c .before .before .before .before .before .before .before .before .before .before .is-exactly .ensures, c .before .before .before .before .before .before .before .before .before .if1 .left, ← c .before .before .before .before .before .before .before .is-exactly2 .ensures, c .before .before .before .before .before .before .if2 .left, ← c .before .before .before .before .is-exactly3 .ensures, c .before .before .before .if3 .left, ← c .before .is-exactly4 .ensures, c .if4 .taken)
 
--- src/remembering.rt:66:1
 returns-5 : tie.Need-returns-5
 unfolding topLevelOf
 returns-5 c = rw (← c .before .before .before .before .before .before .before .before .before .before .is-exactly .ensures, c .before .before .before .before .before .before .before .before .before .if1 .left, ← c .before .before .before .before .before .before .before .is-exactly2 .ensures, c .before .before .before .before .before .before .if2 .left, ← c .before .before .before .before .is-exactly3 .ensures, c .before .before .before .if3 .left, ← c .before .is-exactly4 .ensures, c .if4 .left)

@@ -1,69 +1,49 @@
 use mathlib.Core.Path.{sym}
 use lib.Seq.{length-take-le}
-use Rattle.tokenizer.proofs.Sizing.{len-inside, alias-inside, key-fits, len-fits, step-token, step-past, step-nothing}
 use borrow.Author.Needs.{needs}
+use Rattle.tokenizer.proofs.Sizing.{len-inside, alias-inside, key-fits, len-fits, step-token, step-past, step-nothing}
 use Rattle.tokenizer.proofs.stepping.next_step.Statement.{statement}
 use Rattle.tokenizer.proofs.stepping.next_step.Tie as tie
-use Rattle.tokenizer.proofs.stepping.next_step.Reads as reads
-use Rattle.tokenizer.proofs.stepping.next_step.Lts as lts
-use Rattle.tokenizer.proofs.choice.next_piece.Reads as next-piece-reads
-use Rattle.tokenizer.proofs.remembering.remember_piece.Reads as remember-piece-reads
-use Rattle.tokenizer.proofs.stepping.given_out.Reads as given-out-reads
-use Rattle.tokenizer.proofs.stepping.place_key.Reads as place-key-reads
 
--- src/stepping.rt:54:9
 returns : tie.Need-returns
 returns c = search step-past
 
--- src/stepping.rt:56:16
 sub-rest : tie.Need-sub-rest
 sub-rest c = search needs
 
--- src/stepping.rt:56:16
 part-rest-start : tie.Need-part-rest-start
 part-rest-start c = search needs
 
--- src/stepping.rt:56:16
 part-rest-end : tie.Need-part-rest-end
 part-rest-end c = search needs
 
--- src/stepping.rt:58:36
 next-piece-requires : tie.Need-next-piece-requires
 next-piece-requires c κs = search needs
 
--- src/stepping.rt:58:27
 enum-known-piece : tie.Need-enum-known-piece
 enum-known-piece c = search needs
 
--- src/stepping.rt:59:9
 enum-told : tie.Need-enum-told
 enum-told c = search needs
 
--- src/stepping.rt:59:9
 returns-2 : tie.Need-returns-2
 returns-2 c = search step-nothing
 
--- src/stepping.rt:66:15
 given-out-requires : tie.Need-given-out-requires
 given-out-requires c κs = search needs
 
--- src/stepping.rt:70:14
 place-key-requires : tie.Need-place-key-requires
 place-key-requires c κs = search key-fits
 
--- src/stepping.rt:72:45
 slice-aggregate-remember-piece : tie.Need-slice-aggregate-remember-piece
 slice-aggregate-remember-piece c = sym (length-take-le _ _ (search len-inside))
 
--- src/stepping.rt:72:9
 remember-piece-requires : tie.Need-remember-piece-requires
 remember-piece-requires c κs = search alias-inside
 
--- src/stepping.rt:76:17
 add-t14 : tie.Need-add-t14
 add-t14 c = search len-fits
 
--- src/stepping.rt:49:1
 returns-3 : tie.Need-returns-3
 returns-3 c = search step-token
 
