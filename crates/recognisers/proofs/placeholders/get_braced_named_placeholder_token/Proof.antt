@@ -1,9 +1,7 @@
 use borrow.Author.Needs.{needs}
 use Rattle.recognisers.proofs.PlaceholderLaws.{braced-token, braced-nothing}
-use Rattle.recognisers.proofs.placeholders.get_braced_named_placeholder_token.Statement.{
+use Rattle.recognisers.proofs.placeholders.get_braced_named_placeholder_token.Statement.{statement}
 use Rattle.recognisers.proofs.placeholders.get_braced_named_placeholder_token.Tie as tie
-  statement,
-}
 
 braced-part-requires : tie.Need-braced-part-requires
 braced-part-requires c κs = search needs

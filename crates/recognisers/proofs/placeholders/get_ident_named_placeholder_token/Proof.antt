@@ -1,9 +1,7 @@
 use borrow.Author.Needs.{needs}
 use Rattle.recognisers.proofs.PlaceholderLaws.{ident-token, ident-nothing}
-use Rattle.recognisers.proofs.placeholders.get_ident_named_placeholder_token.Statement.{
+use Rattle.recognisers.proofs.placeholders.get_ident_named_placeholder_token.Statement.{statement}
 use Rattle.recognisers.proofs.placeholders.get_ident_named_placeholder_token.Tie as tie
-  statement,
-}
 
 ident-part-requires : tie.Need-ident-part-requires
 ident-part-requires c κs = search needs

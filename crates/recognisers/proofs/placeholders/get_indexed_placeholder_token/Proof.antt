@@ -1,9 +1,7 @@
 use borrow.Author.Needs.{needs}
 use Rattle.recognisers.proofs.PlaceholderLaws.{indexed-fits, indexed-token, indexed-nothing}
-use Rattle.recognisers.proofs.placeholders.get_indexed_placeholder_token.Statement.{
+use Rattle.recognisers.proofs.placeholders.get_indexed_placeholder_token.Statement.{statement}
 use Rattle.recognisers.proofs.placeholders.get_indexed_placeholder_token.Tie as tie
-  statement,
-}
 
 indexed-part-requires : tie.Need-indexed-part-requires
 indexed-part-requires c κs = search needs

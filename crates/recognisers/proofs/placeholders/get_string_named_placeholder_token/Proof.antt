@@ -1,9 +1,7 @@
 use borrow.Author.Needs.{needs}
 use Rattle.recognisers.proofs.PlaceholderLaws.{string-named-fits, string-token, string-nothing}
-use Rattle.recognisers.proofs.placeholders.get_string_named_placeholder_token.Statement.{
+use Rattle.recognisers.proofs.placeholders.get_string_named_placeholder_token.Statement.{statement}
 use Rattle.recognisers.proofs.placeholders.get_string_named_placeholder_token.Tie as tie
-  statement,
-}
 
 string-named-part-requires : tie.Need-string-named-part-requires
 string-named-part-requires c κs = search needs
