@@ -2,4 +2,5 @@
 pub mod Choosing
 pub mod Placing
 pub mod Sizing
+pub mod Walking
 pub mod Worked
