@@ -2,3 +2,5 @@
 pub mod Memory
 pub mod NextToken
 pub mod Tokens
+pub mod Records
+pub mod Answers

@@ -5,10 +5,15 @@ use recognisers::TokenKind;
 use reserved::TopLevel;
 
 mod choice;
+mod records;
 mod remembering;
 mod stepping;
+mod table;
+mod tokenizing;
 
 pub use stepping::next_step;
+pub use tokenizing::check;
+pub use tokenizing::tokenize;
 
 // What is asked of earlier tokens: may a type specifier stand here, is the last non-whitespace token's value `.`, is the last
 // Reserved token's value BETWEEN, and the last top-level token's alias.
@@ -54,4 +59,17 @@ pub enum Answer {
     TableFull(u64),
     Sheet,
     OutputFull(u64),
+}
+
+// A statement under settings, accepted or refused.
+pub enum Checked {
+    Accepted(Settings),
+    Refused(Answer),
+}
+
+// The last three words of a record.
+pub struct KeyWords {
+    pub kind: u64,
+    pub a: u64,
+    pub b: u64,
 }

@@ -1,0 +1,65 @@
+use borrow.Author.Needs.{needs}
+use Rattle.tokenizer.proofs.table.count_tokens.Statement.{statement}
+use Rattle.tokenizer.proofs.table.count_tokens.Tie as tie
+use Rattle.tokenizer.proofs.table.count_tokens.Reads as reads
+use Rattle.tokenizer.proofs.table.count_tokens.Lts as lts
+use Rattle.tokenizer.proofs.stepping.next_step.Reads as next-step-reads
+use Rattle.tokenizer.proofs.table.at_start.Reads as at-start-reads
+
+abbrev Inv-loop : tie.InvT-loop
+Inv-loop statement settings count₀ cursor₀ count cursor = ?
+
+abbrev μ-loop : tie.MeasureT-loop
+μ-loop statement settings count₀ cursor₀ count cursor = ?
+
+-- src/table.rt:36:9
+at-start-requires : tie.Need-at-start-requires Inv-loop μ-loop
+at-start-requires c κs = search needs
+
+-- src/table.rt:37:5
+loop-holds : tie.Need-loop-holds Inv-loop μ-loop
+loop-holds c = search needs
+
+-- src/table.rt:38:15
+next-step-requires : tie.Need-next-step-requires Inv-loop μ-loop
+next-step-requires c κs = search needs
+
+-- src/table.rt:39:28
+enum-known-next : tie.Need-enum-known-next Inv-loop μ-loop
+enum-known-next c = search needs
+
+-- src/table.rt:40:17
+add-count : tie.Need-add-count Inv-loop μ-loop
+add-count c = search needs
+
+-- src/table.rt:37:5
+loop-less : tie.Need-loop-less Inv-loop μ-loop
+loop-less c = search needs
+
+-- src/table.rt:37:5
+loop-again : tie.Need-loop-again Inv-loop μ-loop
+loop-again c = search needs
+
+-- src/table.rt:44:17
+enum-told : tie.Need-enum-told Inv-loop μ-loop
+enum-told c = search needs
+
+-- src/table.rt:44:17
+returns : tie.Need-returns Inv-loop μ-loop
+returns c = search needs
+
+pub count-tokens-spec : {M : Type 1} → statement M
+count-tokens-spec =
+    tie.close
+    (tie.spec
+    Inv-loop
+    μ-loop
+    at-start-requires
+    loop-holds
+    next-step-requires
+    enum-known-next
+    add-count
+    loop-less
+    loop-again
+    enum-told
+    returns)

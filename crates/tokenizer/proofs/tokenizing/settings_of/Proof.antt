@@ -1,0 +1,17 @@
+use borrow.Author.Needs.{needs}
+use Rattle.tokenizer.proofs.tokenizing.settings_of.Statement.{statement}
+use Rattle.tokenizer.proofs.tokenizing.settings_of.Tie as tie
+use Rattle.tokenizer.proofs.tokenizing.settings_of.Reads as reads
+use Rattle.tokenizer.proofs.tokenizing.settings_of.Lts as lts
+use Rattle.tokenizer.proofs.tokenizing.dialect_of.Reads as dialect-of-reads
+
+-- src/tokenizing.rt:34:9
+dialect-of-requires : tie.Need-dialect-of-requires
+dialect-of-requires c κs = search needs
+
+-- src/tokenizing.rt:31:1
+returns : tie.Need-returns
+returns c = search needs
+
+pub settings-of-spec : {M : Type 1} → statement M
+settings-of-spec = tie.close (tie.spec dialect-of-requires returns)

@@ -1,0 +1,89 @@
+// Token records: seven 32-bit words, the lowest byte first.
+use crate::KeyWords;
+use crate::Token;
+use crate::remembering::kind_number;
+use recognisers::Key;
+ghost use mathlib.Core.Path.{_≡_};
+ghost use Prim.Native.Nat.{_+_, _%_, _≤_};
+ghost use lib.ListN.{length};
+ghost use lib.Seq.{sets};
+ghost use Rattle.tokenizer.specs.Records.{le32, keyWords, placeBytes, keyBytes, recordOf};
+
+fn low_byte(word: u64) -> u8
+    ensures { λ r. ⌜ r ≡ word % 256 ⌝ }
+{
+    (word % 256) as u8
+}
+
+fn put_word(table: &mut [u8], at: usize, word: u64)
+    requires { ⌜ at + 4 ≤ length (now table) ⌝ }
+    ensures { λ _. ⌜ now (table .exit) ≡ sets (now (table .entry)) at (le32 word) ⌝ }
+{
+    table[at] = low_byte(word);
+    table[at + 1] = low_byte(word / 256);
+    table[at + 2] = low_byte(word / 65536);
+    table[at + 3] = low_byte(word / 16777216);
+}
+
+fn key_words(key: Key) -> KeyWords
+    ensures { λ r. ⌜ r ≡ keyWords key ⌝ }
+{
+    match key {
+        Key::None => KeyWords {
+            kind: 0,
+            a: 0,
+            b: 0,
+        },
+        Key::Named { start, len } => KeyWords {
+            kind: 1,
+            a: start as u64,
+            b: len as u64,
+        },
+        Key::Escaped { start, len } => KeyWords {
+            kind: 2,
+            a: start as u64,
+            b: len as u64,
+        },
+        Key::ZeroIndexed(n) => KeyWords {
+            kind: 3,
+            a: n / 4294967296,
+            b: n % 4294967296,
+        },
+        Key::OneIndexed(n) => KeyWords {
+            kind: 4,
+            a: n / 4294967296,
+            b: n % 4294967296,
+        },
+    }
+}
+
+fn put_place(table: &mut [u8], at: usize, kind: u64, start: usize, len: usize, alias: usize)
+    requires { ⌜ at + 16 ≤ length (now table) ⌝ }
+    ensures { λ _. ⌜ now (table .exit) ≡ sets (now (table .entry)) at (placeBytes kind start len alias) ⌝ }
+{
+    put_word(table, at, kind);
+    put_word(table, at + 4, start as u64);
+    put_word(table, at + 8, len as u64);
+    put_word(table, at + 12, alias as u64);
+}
+
+fn put_key(table: &mut [u8], at: usize, key: KeyWords)
+    requires { ⌜ at + 12 ≤ length (now table) ⌝ }
+    ensures { λ _. ⌜ now (table .exit) ≡ sets (now (table .entry)) at (keyBytes key) ⌝ }
+{
+    put_word(table, at, key.kind);
+    put_word(table, at + 4, key.a);
+    put_word(table, at + 8, key.b);
+}
+
+pub fn put_record(table: &mut [u8], at: usize, token: Token)
+    requires { ⌜ at + 28 ≤ length (now table) ⌝ }
+    ensures { λ _. ⌜ now (table .exit) ≡ sets (now (table .entry)) at (recordOf token) ⌝ }
+{
+    let kind = token.kind;
+    let key = token.key;
+    let words = key_words(key);
+    let number = kind_number(kind);
+    put_place(table, at, number, token.start, token.len, token.alias);
+    put_key(table, at + 16, words);
+}

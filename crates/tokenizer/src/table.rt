@@ -1,0 +1,80 @@
+// The table that a statement's tokens are written to.
+use crate::Answer;
+use crate::Cursor;
+use crate::Memory;
+use crate::Settings;
+use crate::Step;
+use crate::records::put_record;
+use crate::stepping::next_step;
+use reserved::TopLevel;
+ghost use mathlib.Core.Path.{_≡_};
+ghost use Prim.Native.Nat.{_*_, _≤_};
+ghost use lib.ListN.{length};
+ghost use Rattle.tokenizer.specs.Memory.{start};
+ghost use Rattle.tokenizer.specs.Tokens.{tokens};
+ghost use Rattle.tokenizer.specs.Records.{written};
+ghost use Rattle.tokenizer.specs.Answers.{tableAnswer, tableAfter};
+
+fn at_start() -> Cursor
+    ensures { λ r. ⌜ r ≡ record { at = 0; memory = start } ⌝ }
+{
+    Cursor {
+        at: 0,
+        memory: Memory {
+            type_specifier: true,
+            after_dot: false,
+            after_between: false,
+            top_level: TopLevel::Other,
+        },
+    }
+}
+
+pub fn count_tokens(statement: &[u8], settings: Settings) -> usize
+    ensures { λ r. ⌜ r ≡ length (tokens settings (now (statement .entry))) ⌝ }
+{
+    let mut count = 0;
+    let mut cursor = at_start();
+    loop {
+        match next_step(statement, settings, cursor) {
+            Step::Token(_, next) => {
+                count += 1;
+                cursor = next;
+            }
+            Step::Done => {
+                return count;
+            }
+        }
+    }
+}
+
+fn write_tokens(statement: &[u8], settings: Settings, table: &mut [u8])
+    requires { ⌜ length (tokens settings (now statement)) * 28 ≤ length (now table) ⌝ }
+    ensures { λ _. ⌜ now (table .exit) ≡ written (tokens settings (now (statement .entry))) (now (table .entry)) ⌝ }
+{
+    let mut at = 0;
+    let mut cursor = at_start();
+    loop {
+        match next_step(statement, settings, cursor) {
+            Step::Token(token, next) => {
+                put_record(table, at, token);
+                at += 28;
+                cursor = next;
+            }
+            Step::Done => {
+                return;
+            }
+        }
+    }
+}
+
+pub fn fill_table(statement: &[u8], settings: Settings, table: &mut [u8]) -> Answer
+    ensures { λ r. ⌜ r ≡ tableAnswer settings (now (statement .entry)) (length (now (table .entry))) ⌝ }
+    ensures { λ _. ⌜ now (table .exit) ≡ tableAfter settings (now (statement .entry)) (now (table .entry)) ⌝ }
+{
+    let count = count_tokens(statement, settings);
+    if table.len() / 28 < count {
+        return Answer::TableFull(count as u64);
+    }
+    write_tokens(statement, settings, table);
+    Answer::Done(count as u64)
+}

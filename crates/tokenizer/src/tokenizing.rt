@@ -1,0 +1,66 @@
+// `tokenize`, and the refusals that all operations share.
+use crate::Answer;
+use crate::Checked;
+use crate::Settings;
+use crate::table::fill_table;
+use recognisers::Dialect;
+use unicode::IllFormed;
+use unicode::first_ill_formed;
+ghost use mathlib.Core.Path.{_≡_};
+ghost use lib.ListN.{length};
+ghost use Rattle.tokenizer.specs.Answers.{isSetting, dialectOf, settingsOf, checked, tokenizeAnswer, tokenizeRecords};
+
+fn is_setting(dialect: u64, joins: u64, named: u64) -> bool
+    ensures { λ r. ⌜ r ≡ isSetting dialect joins named ⌝ }
+{
+    dialect <= 2 && joins <= 1 && named <= 1
+}
+
+fn dialect_of(dialect: u64) -> Dialect
+    ensures { λ r. ⌜ r ≡ dialectOf dialect ⌝ }
+{
+    if dialect == 0 {
+        return Dialect::Generic;
+    }
+    if dialect == 1 {
+        return Dialect::PostgreSql;
+    }
+    Dialect::SQLServer
+}
+
+fn settings_of(dialect: u64, joins: u64, named: u64) -> Settings
+    ensures { λ r. ⌜ r ≡ settingsOf dialect joins named ⌝ }
+{
+    let read = dialect_of(dialect);
+    Settings {
+        dialect: read,
+        joins: joins == 1,
+        named: named == 1,
+    }
+}
+
+// Setting, overlong, not UTF-8: the first that applies.
+pub fn check(statement: &[u8], dialect: u64, joins: u64, named: u64) -> Checked
+    ensures { λ r. ⌜ r ≡ checked dialect joins named (now (statement .entry)) ⌝ }
+{
+    if !is_setting(dialect, joins, named) {
+        return Checked::Refused(Answer::Setting);
+    }
+    if 65536 < statement.len() {
+        return Checked::Refused(Answer::Overlong(statement.len() as u64));
+    }
+    match first_ill_formed(statement) {
+        IllFormed::At(place) => Checked::Refused(Answer::NotUtf8(place as u64)),
+        IllFormed::Nowhere => Checked::Accepted(settings_of(dialect, joins, named)),
+    }
+}
+
+pub fn tokenize(statement: &[u8], dialect: u64, joins: u64, named: u64, records: &mut [u8]) -> Answer
+    ensures { λ r. ⌜ r ≡ tokenizeAnswer (now (statement .entry)) dialect joins named (length (now (records .entry))) ⌝ }
+    ensures { λ _. ⌜ now (records .exit) ≡ tokenizeRecords (now (statement .entry)) dialect joins named (now (records .entry)) ⌝ }
+{
+    match check(statement, dialect, joins, named) {
+        Checked::Accepted(settings) => fill_table(statement, settings, records),
+        Checked::Refused(answer) => answer,
+    }
+}
