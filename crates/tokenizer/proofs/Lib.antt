@@ -3,4 +3,6 @@ pub mod Choosing
 pub mod Placing
 pub mod Sizing
 pub mod Walking
+pub mod Storing
+pub mod Answering
 pub mod Worked

@@ -122,6 +122,10 @@ module _ (settings : Settings) where
     unfolding tokens
     walk-start = record { passed = []; whole = refl; count = refl; reach = zero-le; inside = zero-le }
 
+    -- the same, of the cursor that a call has given
+    pub walk-from : (c : Cursor) → c ≡ record { at = 0; memory = start } → Walked 0 c
+    walk-from c e = rw e walk-start
+
     module _ (n : ℕ) (c : Cursor) (r : Step) (at : Walked n c) (e : r ≡ stepAt settings s c) where
       module _ (t : Token) (c′ : Cursor) (f : r ≡ S.Token t c′) where
         unfoldable pub walk-more : Walked (n + 1) c′

@@ -54,12 +54,12 @@ abbrev pub whenUtf8 : Settings → IllFormed → Checked
 whenUtf8 settings (At place) = Refused (NotUtf8 place)
 whenUtf8 settings Nowhere = Accepted settings
 
+unfoldable pub checkedText : Settings → List ℕ → Checked
+checkedText settings s = cond (ltb longest (length s)) (Refused (Overlong (length s))) (whenUtf8 settings (firstIllFormed s))
+
 -- the refusals that all operations share, the first that applies
 unfoldable pub checked : ℕ → ℕ → ℕ → List ℕ → Checked
-checked dialect joins named s =
-    cond (isSetting dialect joins named)
-    (cond (ltb longest (length s)) (Refused (Overlong (length s))) (whenUtf8 (settingsOf dialect joins named) (firstIllFormed s)))
-    (Refused Setting)
+checked dialect joins named s = cond (isSetting dialect joins named) (checkedText (settingsOf dialect joins named) s) (Refused Setting)
 
 -- whole records of 28 bytes in a table of so many bytes
 unfoldable pub tableAnswer : Settings → List ℕ → ℕ → Answer

@@ -8,12 +8,18 @@ use unicode::IllFormed;
 use unicode::first_ill_formed;
 ghost use mathlib.Core.Path.{_≡_};
 ghost use lib.ListN.{length};
-ghost use Rattle.tokenizer.specs.Answers.{isSetting, dialectOf, settingsOf, checked, tokenizeAnswer, tokenizeRecords};
+ghost use Rattle.tokenizer.specs.Answers.{isSetting, dialectOf, settingsOf, checkedText, checked, tokenizeAnswer, tokenizeRecords};
 
 fn is_setting(dialect: u64, joins: u64, named: u64) -> bool
     ensures { λ r. ⌜ r ≡ isSetting dialect joins named ⌝ }
 {
-    dialect <= 2 && joins <= 1 && named <= 1
+    if 2 < dialect {
+        return false;
+    }
+    if 1 < joins {
+        return false;
+    }
+    named <= 1
 }
 
 fn dialect_of(dialect: u64) -> Dialect
@@ -39,20 +45,26 @@ fn settings_of(dialect: u64, joins: u64, named: u64) -> Settings
     }
 }
 
-// Setting, overlong, not UTF-8: the first that applies.
-pub fn check(statement: &[u8], dialect: u64, joins: u64, named: u64) -> Checked
-    ensures { λ r. ⌜ r ≡ checked dialect joins named (now (statement .entry)) ⌝ }
+fn check_text(statement: &[u8], settings: Settings) -> Checked
+    ensures { λ r. ⌜ r ≡ checkedText settings (now (statement .entry)) ⌝ }
 {
-    if !is_setting(dialect, joins, named) {
-        return Checked::Refused(Answer::Setting);
-    }
     if 65536 < statement.len() {
         return Checked::Refused(Answer::Overlong(statement.len() as u64));
     }
     match first_ill_formed(statement) {
         IllFormed::At(place) => Checked::Refused(Answer::NotUtf8(place as u64)),
-        IllFormed::Nowhere => Checked::Accepted(settings_of(dialect, joins, named)),
+        IllFormed::Nowhere => Checked::Accepted(settings),
     }
+}
+
+// Setting, overlong, not UTF-8: the first that applies.
+pub fn check(statement: &[u8], dialect: u64, joins: u64, named: u64) -> Checked
+    ensures { λ r. ⌜ r ≡ checked dialect joins named (now (statement .entry)) ⌝ }
+{
+    if is_setting(dialect, joins, named) {
+        return check_text(statement, settings_of(dialect, joins, named));
+    }
+    Checked::Refused(Answer::Setting)
 }
 
 pub fn tokenize(statement: &[u8], dialect: u64, joins: u64, named: u64, records: &mut [u8]) -> Answer

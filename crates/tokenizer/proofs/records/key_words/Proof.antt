@@ -1,3 +1,5 @@
+use Rattle.tokenizer.proofs.Storing.{named-words, escaped-words, zero-words, one-words}
+use mathlib.Core.Path.{refl}
 use borrow.Author.Needs.{needs}
 use Rattle.tokenizer.proofs.records.key_words.Statement.{statement}
 use Rattle.tokenizer.proofs.records.key_words.Tie as tie
@@ -26,23 +28,23 @@ enum-known-key-4 c = search needs
 
 -- src/records.rt:28:1
 returns : tie.Need-returns
-returns c = search needs
+returns c = rw (c .enum-told .given .1) refl
 
 -- src/records.rt:28:1
 returns-2 : tie.Need-returns-2
-returns-2 c = search needs
+returns-2 c = search named-words
 
 -- src/records.rt:28:1
 returns-3 : tie.Need-returns-3
-returns-3 c = search needs
+returns-3 c = search escaped-words
 
 -- src/records.rt:28:1
 returns-4 : tie.Need-returns-4
-returns-4 c = search needs
+returns-4 c = search zero-words
 
 -- src/records.rt:28:1
 returns-5 : tie.Need-returns-5
-returns-5 c = search needs
+returns-5 c = search one-words
 
 pub key-words-spec : {M : Type 1} → statement M
 key-words-spec =

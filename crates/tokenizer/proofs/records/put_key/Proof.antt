@@ -1,3 +1,4 @@
+use Rattle.tokenizer.proofs.Storing.{key-put}
 use borrow.Author.Needs.{needs}
 use Rattle.tokenizer.proofs.records.put_key.Statement.{statement}
 use Rattle.tokenizer.proofs.records.put_key.Tie as tie
@@ -31,7 +32,7 @@ same-length c = search needs
 
 -- src/records.rt:70:1
 returns : tie.Need-returns
-returns c = search needs
+returns c = search key-put
 
 pub put-key-spec : {M : Type 1} → statement M
 put-key-spec =

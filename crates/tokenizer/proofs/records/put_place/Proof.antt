@@ -1,3 +1,4 @@
+use Rattle.tokenizer.proofs.Storing.{place-put}
 use borrow.Author.Needs.{needs}
 use Rattle.tokenizer.proofs.records.put_place.Statement.{statement}
 use Rattle.tokenizer.proofs.records.put_place.Tie as tie
@@ -39,7 +40,7 @@ same-length c = search needs
 
 -- src/records.rt:60:1
 returns : tie.Need-returns
-returns c = search needs
+returns c = search place-put
 
 pub put-place-spec : {M : Type 1} → statement M
 put-place-spec =

@@ -1,3 +1,4 @@
+use Rattle.tokenizer.proofs.Storing.{record-put}
 use borrow.Author.Needs.{needs}
 use Rattle.tokenizer.proofs.records.put_record.Statement.{statement}
 use Rattle.tokenizer.proofs.records.put_record.Tie as tie
@@ -34,7 +35,7 @@ same-length c = search needs
 
 -- src/records.rt:79:1
 returns : tie.Need-returns
-returns c = search needs
+returns c = search record-put
 
 pub put-record-spec : {M : Type 1} → statement M
 put-record-spec =

@@ -1,3 +1,6 @@
+use Rattle.tokenizer.proofs.Storing.{word-put}
+use native.Mathlib.Omega.{arith}
+use lib.ListN.{length-set}
 use borrow.Author.Needs.{needs}
 use Rattle.tokenizer.proofs.records.put_word.Statement.{statement}
 use Rattle.tokenizer.proofs.records.put_word.Tie as tie
@@ -23,7 +26,7 @@ add-table c = search needs
 
 -- src/records.rt:23:5
 slice-write-table-2 : tie.Need-slice-write-table-2
-slice-write-table-2 c = search needs
+slice-write-table-2 c = simp length-set (omega arith)
 
 -- src/records.rt:24:21
 low-byte-requires-3 : tie.Need-low-byte-requires-3
@@ -35,7 +38,7 @@ add-table-2 c = search needs
 
 -- src/records.rt:24:5
 slice-write-table-3 : tie.Need-slice-write-table-3
-slice-write-table-3 c = search needs
+slice-write-table-3 c = simp length-set (omega arith)
 
 -- src/records.rt:25:21
 low-byte-requires-4 : tie.Need-low-byte-requires-4
@@ -47,7 +50,7 @@ add-table-3 c = search needs
 
 -- src/records.rt:25:5
 slice-write-table-4 : tie.Need-slice-write-table-4
-slice-write-table-4 c = search needs
+slice-write-table-4 c = simp length-set (omega arith)
 
 -- src/records.rt:18:1
 same-length : tie.Need-same-length
@@ -55,7 +58,7 @@ same-length c = search needs
 
 -- src/records.rt:18:1
 returns : tie.Need-returns
-returns c = search needs
+returns c = search word-put
 
 pub put-word-spec : {M : Type 1} → statement M
 put-word-spec =

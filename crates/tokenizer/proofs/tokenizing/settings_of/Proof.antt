@@ -1,3 +1,5 @@
+use Rattle.tokenizer.specs.Answers.{settingsOf}
+use borrow.Author.Tests.{eq-eqb, ne-eqb, le-leb, lt-leb}
 use borrow.Author.Needs.{needs}
 use Rattle.tokenizer.proofs.tokenizing.settings_of.Statement.{statement}
 use Rattle.tokenizer.proofs.tokenizing.settings_of.Tie as tie
@@ -11,7 +13,8 @@ dialect-of-requires c κs = search needs
 
 -- src/tokenizing.rt:31:1
 returns : tie.Need-returns
-returns c = search needs
+unfolding settingsOf
+returns c = cc
 
 pub settings-of-spec : {M : Type 1} → statement M
 settings-of-spec = tie.close (tie.spec dialect-of-requires returns)
