@@ -38,6 +38,10 @@ $(build)/utf8: tests/unicode/utf8.rs tests/unicode/unicode.rs target/staticlib/l
 	@mkdir -p $(build)
 	$(rust) -o $@ $< -L target/staticlib -l static=unicode_exports
 
+$(build)/replay: tests/tokenize/replay.rs target/staticlib/libventpeeler.a
+	@mkdir -p $(build)
+	$(rust) -o $@ $< -L target/staticlib -l static=ventpeeler
+
 # unicode_categories is older than its compiler, which warns of that
 $(build)/libunicode_categories.rlib: $(categories)
 	@mkdir -p $(build)

@@ -1,0 +1,63 @@
+// The boundary for C.
+use tokenizer::Answer;
+use tokenizer::tokenize;
+ghost use mathlib.Core.Path.{_≡_};
+ghost use Prim.Native.Nat.{min, _≤_};
+ghost use lib.ListN.{length};
+ghost use Rattle.tokenizer.specs.Answers.{answerNumber, answerDetail, tokenizeAnswer, tokenizeRecords};
+ghost use Rattle.ventpeeler.specs.Packed.{packed};
+
+fn answer_number(answer: Answer) -> u64
+    ensures { λ r. ⌜ r ≡ answerNumber answer ⌝ }
+{
+    match answer {
+        Answer::Done(_) => 0,
+        Answer::Overlong(_) => 1,
+        Answer::NotUtf8(_) => 2,
+        Answer::Setting => 3,
+        Answer::TableFull(_) => 4,
+        Answer::Sheet => 5,
+        Answer::OutputFull(_) => 6,
+    }
+}
+
+fn answer_detail(answer: Answer) -> u64
+    ensures { λ r. ⌜ r ≡ answerDetail answer ⌝ }
+{
+    match answer {
+        Answer::Done(n) => n,
+        Answer::Overlong(n) => n,
+        Answer::NotUtf8(n) => n,
+        Answer::Setting => 0,
+        Answer::TableFull(n) => n,
+        Answer::Sheet => 0,
+        Answer::OutputFull(n) => n,
+    }
+}
+
+fn at_most(n: u64, most: u64) -> u64
+    ensures { λ r. ⌜ r ≡ min n most ⌝ }
+{
+    if most < n {
+        return most;
+    }
+    n
+}
+
+fn pack(answer: Answer) -> u64
+    ensures { λ r. ⌜ r ≡ packed answer ⌝ }
+{
+    let number = answer_number(answer);
+    let detail = answer_detail(answer);
+    let told = at_most(detail, 72057594037927935);
+    number * 72057594037927936 + told
+}
+
+#[no_mangle]
+pub extern "C" fn ventpeeler_tokenize(statement: &[u8], dialect: u64, joins: u64, named: u64, records: &mut [u8]) -> u64
+    ensures { λ r. ⌜ r ≡ packed (tokenizeAnswer (now (statement .entry)) dialect joins named (length (now (records .entry)))) ⌝ }
+    ensures { λ _. ⌜ now (records .exit) ≡ tokenizeRecords (now (statement .entry)) dialect joins named (now (records .entry)) ⌝ }
+{
+    let answer = tokenize(statement, dialect, joins, named, records);
+    pack(answer)
+}
