@@ -100,6 +100,10 @@ module _ (settings : Settings) where
         go true R.Nothing f g = let q : S.Done ≡ S.Token t c′ = sym (rw (f, g)) ∙ e in let z : _≡_ {A = ℕ} 0 1 = cc in absurd (let w : ⊥ = omega arith in w)
         go false q f g = let y : S.Done ≡ S.Token t c′ = sym (rw f) ∙ e in let z : _≡_ {A = ℕ} 0 1 = cc in absurd (let w : ⊥ = omega arith in w)
 
+    -- as a loop over the steps has it
+    pub step-less : (c : Cursor) (r : Step) (t : Token) (c′ : Cursor) → r ≡ stepAt settings s c → r ≡ S.Token t c′ → length s - c′ .at < length s - c .at
+    step-less c r t c′ e f = let m = step-moves c t c′ (sym e ∙ f) in omega (arith, m .on, m .inside)
+
     pub step-ends : (c : Cursor) → stepAt settings s c ≡ S.Done → left c ≡ []
     unfolding stepAt
     step-ends c e = go (ltb (c .at) (length s)) (nextPiece settings (c .memory) (drop (c .at) s)) refl refl
@@ -140,7 +144,7 @@ module _ (settings : Settings) where
             }
 
         pub walk-less : length s - c′ .at < length s - c .at
-        walk-less = let m = step-moves c t c′ (sym e ∙ f) in omega (arith, m .on, m .inside)
+        walk-less = step-less c r t c′ e f
 
         pub walk-fits : length s < 2 ^ 64 → Fits w64 (n + 1)
         walk-fits h = let m = step-moves c t c′ (sym e ∙ f) in record { fits = omega (arith, m .on, m .inside, at .reach) }

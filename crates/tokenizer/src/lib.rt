@@ -11,7 +11,11 @@ mod stepping;
 mod table;
 mod tokenizing;
 
+pub use records::key_words;
+pub use remembering::kind_number;
 pub use stepping::next_step;
+pub use table::at_start;
+pub use table::count_tokens;
 pub use tokenizing::check;
 pub use tokenizing::tokenize;
 

@@ -25,7 +25,7 @@ fn put_word(table: &mut [u8], at: usize, word: u64)
     table[at + 3] = low_byte(word / 16777216);
 }
 
-fn key_words(key: Key) -> KeyWords
+pub fn key_words(key: Key) -> KeyWords
     ensures { λ r. ⌜ r ≡ keyWords key ⌝ }
 {
     match key {

@@ -15,7 +15,8 @@ ghost use Rattle.tokenizer.specs.Tokens.{tokens};
 ghost use Rattle.tokenizer.specs.Records.{written};
 ghost use Rattle.tokenizer.specs.Answers.{tableAnswer, tableAfter};
 
-fn at_start() -> Cursor
+// Before the first token.
+pub fn at_start() -> Cursor
     ensures { λ r. ⌜ r ≡ record { at = 0; memory = start } ⌝ }
 {
     Cursor {
