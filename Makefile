@@ -12,8 +12,8 @@ categories := /usr/share/cargo/registry/unicode_categories-0.1.1/src/lib.rs
 all:
 	rt check
 	@echo
-	@echo "White_Space, as the program sweep finds it among all code points:"
-	@target/bin/sweep | sed -n '2,/^is_/p' | sed '$$d'
+	@echo "The tokens of samples/gaps.sql: kind, start, length, alias length, key kind, key a, key b"
+	@target/bin/listing < samples/gaps.sql
 
 test:
 	tools/setup

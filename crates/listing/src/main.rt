@@ -68,7 +68,10 @@ fn print_tokens(statement: &[u8], settings: Settings) {
 
 fn list(statement: &[u8], settings: Settings) {
     io::write_all(STDOUT_FILENO, b"tokens ");
-    io::print_decimal(STDOUT_FILENO, tokenizer::count_tokens(statement, settings) as u64);
+    io::print_decimal(
+        STDOUT_FILENO,
+        tokenizer::count_tokens(statement, settings) as u64,
+    );
     io::write_all(STDOUT_FILENO, b"\n");
     print_tokens(statement, settings);
 }

@@ -67,7 +67,13 @@ pub fn check(statement: &[u8], dialect: u64, joins: u64, named: u64) -> Checked
     Checked::Refused(Answer::Setting)
 }
 
-pub fn tokenize(statement: &[u8], dialect: u64, joins: u64, named: u64, records: &mut [u8]) -> Answer
+pub fn tokenize(
+    statement: &[u8],
+    dialect: u64,
+    joins: u64,
+    named: u64,
+    records: &mut [u8],
+) -> Answer
     ensures { λ r. ⌜ r ≡ tokenizeAnswer (now (statement .entry)) dialect joins named (length (now (records .entry))) ⌝ }
     ensures { λ _. ⌜ now (records .exit) ≡ tokenizeRecords (now (statement .entry)) dialect joins named (now (records .entry)) ⌝ }
 {

@@ -54,7 +54,13 @@ fn pack(answer: Answer) -> u64
 }
 
 #[no_mangle]
-pub extern "C" fn ventpeeler_tokenize(statement: &[u8], dialect: u64, joins: u64, named: u64, records: &mut [u8]) -> u64
+pub extern "C" fn ventpeeler_tokenize(
+    statement: &[u8],
+    dialect: u64,
+    joins: u64,
+    named: u64,
+    records: &mut [u8],
+) -> u64
     ensures { λ r. ⌜ r ≡ packed (tokenizeAnswer (now (statement .entry)) dialect joins named (length (now (records .entry)))) ⌝ }
     ensures { λ _. ⌜ now (records .exit) ≡ tokenizeRecords (now (statement .entry)) dialect joins named (now (records .entry)) ⌝ }
 {

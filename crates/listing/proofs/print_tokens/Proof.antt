@@ -1,14 +1,9 @@
 use Prim.Native.Nat.{_-_}
 use lib.ListN.{length}
-use Rattle.tokenizer.proofs.Walking.{step-less}
 use borrow.Author.Needs.{needs}
+use Rattle.tokenizer.proofs.Walking.{step-less}
 use Rattle.listing.proofs.print_tokens.Statement.{statement}
 use Rattle.listing.proofs.print_tokens.Tie as tie
-use Rattle.listing.proofs.print_tokens.Reads as reads
-use Rattle.listing.proofs.print_tokens.Lts as lts
-use Rattle.listing.proofs.print_token.Reads as print-token-reads
-use Rattle.tokenizer.proofs.next_step.Reads as next-step-reads
-use Rattle.tokenizer.proofs.at_start.Reads as at-start-reads
 
 abbrev Inv-loop : tie.InvT-loop
 Inv-loop statement settings cursor₀ cursor = Unit {0}
@@ -16,39 +11,30 @@ Inv-loop statement settings cursor₀ cursor = Unit {0}
 abbrev μ-loop : tie.MeasureT-loop
 μ-loop statement settings cursor₀ cursor = length statement - cursor .at
 
--- src/main.rt:55:9
 at-start-requires : tie.Need-at-start-requires Inv-loop μ-loop
 at-start-requires c κs = search needs
 
--- src/main.rt:56:5
 loop-holds : tie.Need-loop-holds Inv-loop μ-loop
 loop-holds c = tt
 
--- src/main.rt:57:15
 next-step-requires : tie.Need-next-step-requires Inv-loop μ-loop
 next-step-requires c κs = search needs
 
--- src/main.rt:58:25
 enum-known-token : tie.Need-enum-known-token Inv-loop μ-loop
 enum-known-token c = search needs
 
--- src/main.rt:59:17
 print-token-requires : tie.Need-print-token-requires Inv-loop μ-loop
 print-token-requires c κs = search needs
 
--- src/main.rt:56:5
 loop-less : tie.Need-loop-less Inv-loop μ-loop
 loop-less c = search step-less
 
--- src/main.rt:56:5
 loop-again : tie.Need-loop-again Inv-loop μ-loop
 loop-again c = tt
 
--- src/main.rt:63:17
 enum-told : tie.Need-enum-told Inv-loop μ-loop
 enum-told c = search needs
 
--- src/main.rt:63:17
 returns : tie.Need-returns Inv-loop μ-loop
 returns c = search needs
 

@@ -1,48 +1,36 @@
-use Rattle.tokenizer.proofs.Storing.{named-words, escaped-words, zero-words, one-words}
 use mathlib.Core.Path.{refl}
 use borrow.Author.Needs.{needs}
+use Rattle.tokenizer.proofs.Storing.{named-words, escaped-words, zero-words, one-words}
 use Rattle.tokenizer.proofs.records.key_words.Statement.{statement}
 use Rattle.tokenizer.proofs.records.key_words.Tie as tie
-use Rattle.tokenizer.proofs.records.key_words.Reads as reads
-use Rattle.tokenizer.proofs.records.key_words.Lts as lts
 
--- src/records.rt:32:22
 enum-told : tie.Need-enum-told
 enum-told c = search needs
 
--- src/records.rt:37:22
 enum-known-key : tie.Need-enum-known-key
 enum-known-key c = search needs
 
--- src/records.rt:42:24
 enum-known-key-2 : tie.Need-enum-known-key-2
 enum-known-key-2 c = search needs
 
--- src/records.rt:47:26
 enum-known-key-3 : tie.Need-enum-known-key-3
 enum-known-key-3 c = search needs
 
--- src/records.rt:52:25
 enum-known-key-4 : tie.Need-enum-known-key-4
 enum-known-key-4 c = search needs
 
--- src/records.rt:28:1
 returns : tie.Need-returns
 returns c = rw (c .enum-told .given .1) refl
 
--- src/records.rt:28:1
 returns-2 : tie.Need-returns-2
 returns-2 c = search named-words
 
--- src/records.rt:28:1
 returns-3 : tie.Need-returns-3
 returns-3 c = search escaped-words
 
--- src/records.rt:28:1
 returns-4 : tie.Need-returns-4
 returns-4 c = search zero-words
 
--- src/records.rt:28:1
 returns-5 : tie.Need-returns-5
 returns-5 c = search one-words
 

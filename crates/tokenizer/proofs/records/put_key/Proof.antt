@@ -1,36 +1,26 @@
-use Rattle.tokenizer.proofs.Storing.{key-put}
 use borrow.Author.Needs.{needs}
+use Rattle.tokenizer.proofs.Storing.{key-put}
 use Rattle.tokenizer.proofs.records.put_key.Statement.{statement}
 use Rattle.tokenizer.proofs.records.put_key.Tie as tie
-use Rattle.tokenizer.proofs.records.put_key.Reads as reads
-use Rattle.tokenizer.proofs.records.put_key.Lts as lts
-use Rattle.tokenizer.proofs.records.put_word.Reads as put-word-reads
 
--- src/records.rt:74:5
 put-word-requires : tie.Need-put-word-requires
 put-word-requires c κs = search needs
 
--- src/records.rt:75:21
 add-put-word : tie.Need-add-put-word
 add-put-word c = search needs
 
--- src/records.rt:75:5
 put-word-requires-2 : tie.Need-put-word-requires-2
 put-word-requires-2 c κs = search needs
 
--- src/records.rt:76:21
 add-put-word-2 : tie.Need-add-put-word-2
 add-put-word-2 c = search needs
 
--- src/records.rt:76:5
 put-word-requires-3 : tie.Need-put-word-requires-3
 put-word-requires-3 c κs = search needs
 
--- src/records.rt:70:1
 same-length : tie.Need-same-length
 same-length c = search needs
 
--- src/records.rt:70:1
 returns : tie.Need-returns
 returns c = search key-put
 

@@ -1,62 +1,46 @@
-use Rattle.tokenizer.proofs.Storing.{word-put}
 use native.Mathlib.Omega.{arith}
 use lib.ListN.{length-set}
 use borrow.Author.Needs.{needs}
+use Rattle.tokenizer.proofs.Storing.{word-put}
 use Rattle.tokenizer.proofs.records.put_word.Statement.{statement}
 use Rattle.tokenizer.proofs.records.put_word.Tie as tie
-use Rattle.tokenizer.proofs.records.put_word.Reads as reads
-use Rattle.tokenizer.proofs.records.put_word.Lts as lts
-use Rattle.tokenizer.proofs.records.low_byte.Reads as low-byte-reads
 
--- src/records.rt:22:17
 low-byte-requires : tie.Need-low-byte-requires
 low-byte-requires c κs = search needs
 
--- src/records.rt:22:5
 slice-write-table : tie.Need-slice-write-table
 slice-write-table c = search needs
 
--- src/records.rt:23:21
 low-byte-requires-2 : tie.Need-low-byte-requires-2
 low-byte-requires-2 c κs = search needs
 
--- src/records.rt:23:11
 add-table : tie.Need-add-table
 add-table c = search needs
 
--- src/records.rt:23:5
 slice-write-table-2 : tie.Need-slice-write-table-2
 slice-write-table-2 c = simp length-set (omega arith)
 
--- src/records.rt:24:21
 low-byte-requires-3 : tie.Need-low-byte-requires-3
 low-byte-requires-3 c κs = search needs
 
--- src/records.rt:24:11
 add-table-2 : tie.Need-add-table-2
 add-table-2 c = search needs
 
--- src/records.rt:24:5
 slice-write-table-3 : tie.Need-slice-write-table-3
 slice-write-table-3 c = simp length-set (omega arith)
 
--- src/records.rt:25:21
 low-byte-requires-4 : tie.Need-low-byte-requires-4
 low-byte-requires-4 c κs = search needs
 
--- src/records.rt:25:11
 add-table-3 : tie.Need-add-table-3
 add-table-3 c = search needs
 
--- src/records.rt:25:5
 slice-write-table-4 : tie.Need-slice-write-table-4
 slice-write-table-4 c = simp length-set (omega arith)
 
--- src/records.rt:18:1
 same-length : tie.Need-same-length
 same-length c = search needs
 
--- src/records.rt:18:1
 returns : tie.Need-returns
 returns c = search word-put
 

@@ -1,22 +1,16 @@
-use Rattle.tokenizer.specs.Answers.{dialectOf}
 use borrow.Author.Tests.{eq-eqb, ne-eqb, le-leb, lt-leb}
-use borrow.Author.Needs.{needs}
+use Rattle.tokenizer.specs.Answers.{dialectOf}
 use Rattle.tokenizer.proofs.tokenizing.dialect_of.Statement.{statement}
 use Rattle.tokenizer.proofs.tokenizing.dialect_of.Tie as tie
-use Rattle.tokenizer.proofs.tokenizing.dialect_of.Reads as reads
-use Rattle.tokenizer.proofs.tokenizing.dialect_of.Lts as lts
 
--- src/tokenizing.rt:23:9
 returns : tie.Need-returns
 unfolding dialectOf
 returns c = rw (eq-eqb _ _ (c .if1 .taken))
 
--- src/tokenizing.rt:26:9
 returns-2 : tie.Need-returns-2
 unfolding dialectOf
 returns-2 c = rw (ne-eqb _ _ (c .before .if1 .left), eq-eqb _ _ (c .if2 .taken))
 
--- src/tokenizing.rt:19:1
 returns-3 : tie.Need-returns-3
 unfolding dialectOf
 returns-3 c = rw (ne-eqb _ _ (c .before .if1 .left), ne-eqb _ _ (c .if2 .left))

@@ -1,22 +1,16 @@
-use Rattle.tokenizer.specs.Answers.{isSetting}
 use borrow.Author.Tests.{le-leb, lt-leb}
-use borrow.Author.Needs.{needs}
+use Rattle.tokenizer.specs.Answers.{isSetting}
 use Rattle.tokenizer.proofs.tokenizing.is_setting.Statement.{statement}
 use Rattle.tokenizer.proofs.tokenizing.is_setting.Tie as tie
-use Rattle.tokenizer.proofs.tokenizing.is_setting.Reads as reads
-use Rattle.tokenizer.proofs.tokenizing.is_setting.Lts as lts
 
--- src/tokenizing.rt:17:9
 returns : tie.Need-returns
 unfolding isSetting
 returns c = rw (lt-leb _ _ (c .if1 .taken))
 
--- src/tokenizing.rt:20:9
 returns-2 : tie.Need-returns-2
 unfolding isSetting
 returns-2 c = rw (le-leb _ _ (c .before .if1 .left), lt-leb _ _ (c .if2 .taken))
 
--- src/tokenizing.rt:13:1
 returns-3 : tie.Need-returns-3
 unfolding isSetting
 returns-3 c = rw (le-leb _ _ (c .before .if1 .left), le-leb _ _ (c .if2 .left))

@@ -1,17 +1,12 @@
-use Rattle.tokenizer.specs.Answers.{settingsOf}
 use borrow.Author.Tests.{eq-eqb, ne-eqb, le-leb, lt-leb}
 use borrow.Author.Needs.{needs}
+use Rattle.tokenizer.specs.Answers.{settingsOf}
 use Rattle.tokenizer.proofs.tokenizing.settings_of.Statement.{statement}
 use Rattle.tokenizer.proofs.tokenizing.settings_of.Tie as tie
-use Rattle.tokenizer.proofs.tokenizing.settings_of.Reads as reads
-use Rattle.tokenizer.proofs.tokenizing.settings_of.Lts as lts
-use Rattle.tokenizer.proofs.tokenizing.dialect_of.Reads as dialect-of-reads
 
--- src/tokenizing.rt:34:9
 dialect-of-requires : tie.Need-dialect-of-requires
 dialect-of-requires c κs = search needs
 
--- src/tokenizing.rt:31:1
 returns : tie.Need-returns
 unfolding settingsOf
 returns c = cc

@@ -1,37 +1,26 @@
-use Rattle.tokenizer.proofs.Answering.{refused-answer, refused-table, accepted-answer, accepted-table}
 use borrow.Author.Needs.{needs}
+use Rattle.tokenizer.proofs.Answering.{refused-answer, refused-table, accepted-answer, accepted-table}
 use Rattle.tokenizer.proofs.tokenizing.tokenize.Statement.{statement}
 use Rattle.tokenizer.proofs.tokenizing.tokenize.Tie as tie
-use Rattle.tokenizer.proofs.tokenizing.tokenize.Reads as reads
-use Rattle.tokenizer.proofs.tokenizing.tokenize.Lts as lts
-use Rattle.tokenizer.proofs.table.fill_table.Reads as fill-table-reads
-use Rattle.tokenizer.proofs.tokenizing.check.Reads as check-reads
 
--- src/tokenizing.rt:74:11
 check-requires : tie.Need-check-requires
 check-requires c κs = search needs
 
--- src/tokenizing.rt:75:27
 enum-known-settings : tie.Need-enum-known-settings
 enum-known-settings c = search needs
 
--- src/tokenizing.rt:75:40
 fill-table-requires : tie.Need-fill-table-requires
 fill-table-requires c κs = search needs
 
--- src/tokenizing.rt:76:26
 enum-known-answer : tie.Need-enum-known-answer
 enum-known-answer c = search needs
 
--- src/tokenizing.rt:70:1
 same-length : tie.Need-same-length
 same-length c = search needs
 
--- src/tokenizing.rt:70:1
 returns : tie.Need-returns
 returns c = search (accepted-answer, accepted-table)
 
--- src/tokenizing.rt:70:1
 returns-2 : tie.Need-returns-2
 returns-2 c = search (refused-answer, refused-table)
 
