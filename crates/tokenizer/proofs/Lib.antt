@@ -3,6 +3,7 @@ pub mod Choosing
 pub mod Placing
 pub mod Sizing
 pub mod Walking
+pub mod EndToEnd
 pub mod Storing
 pub mod Answering
 pub mod Worked

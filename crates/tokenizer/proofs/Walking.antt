@@ -35,7 +35,7 @@ module _ (settings : Settings) where
   passing memory at (suc n) [] h = refl
   passing memory at (suc n) (b ∷ s) h = passing memory (suc at) n s (omega arith) ∙ rw (add-suc, suc-add)
 
-  past-end : (memory : Memory) (at n : ℕ) → tokensFrom settings memory at n [] ≡ []
+  pub past-end : (memory : Memory) (at n : ℕ) → tokensFrom settings memory at n [] ≡ []
   unfolding tokensFrom
   past-end memory at n = refl
 
@@ -69,7 +69,7 @@ module _ (settings : Settings) where
       pub inside : c′ .at ≤ length s
       pub list : left c ≡ t ∷ left c′
 
-    moved : (c : Cursor) (p : Piece) → nextPiece settings (c .memory) (drop (c .at) s) ≡ R.Token p → c .at < length s
+    pub moved : (c : Cursor) (p : Piece) → nextPiece settings (c .memory) (drop (c .at) s) ≡ R.Token p → c .at < length s
         → Moved c (tokenAt settings (c .at) p) (record { at = c .at + p .len; memory = remembered (c .memory) (p .kind) (take (p .len) (drop (c .at) s)) (p .alias) })
     moved c p e h =
         let f : Sound (drop (c .at) s) p = sound in

@@ -4,3 +4,4 @@ pub mod NextToken
 pub mod Tokens
 pub mod Records
 pub mod Answers
+pub mod Values
