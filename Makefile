@@ -19,8 +19,10 @@ test:
 	tools/setup
 	tests/run
 
-bench: $(build)/bench_unicode
+bench: $(build)/bench_unicode $(build)/bench_tokenize
 	$(build)/bench_unicode
+	@echo
+	$(build)/bench_tokenize
 
 tables: $(build)/tables
 	$(build)/tables crates/unicode
@@ -37,6 +39,10 @@ $(build)/bench_unicode: bench/unicode.rs tests/unicode/unicode.rs target/staticl
 $(build)/utf8: tests/unicode/utf8.rs tests/unicode/unicode.rs target/staticlib/libunicode_exports.a
 	@mkdir -p $(build)
 	$(rust) -o $@ $< -L target/staticlib -l static=unicode_exports
+
+$(build)/bench_tokenize: bench/tokenize.rs target/staticlib/libventpeeler.a
+	@mkdir -p $(build)
+	$(rust) -o $@ $< -L target/staticlib -l static=ventpeeler
 
 $(build)/replay: tests/tokenize/replay.rs target/staticlib/libventpeeler.a
 	@mkdir -p $(build)
