@@ -1,14 +1,14 @@
 -- Loops over the bytes at the start of a rest.
 -- Assumes nothing.
-use Prim.Native.Nat.{ℕ, zero, suc, _+_, _≤_, _<_, zero-le, suc-le-suc}
-use native.Mathlib.Nat.{add-zero, zero-add, add-suc, suc-add}
+use Prim.Native.Nat.{ℕ, zero, suc, _+_, _≤_, _<_, min, zero-le, suc-le-suc}
+use native.Mathlib.Nat.{le-trans, add-zero, zero-add, add-suc, suc-add, min-zero, zero-min, suc-min-suc, min-eq-left}
 use native.Mathlib.Numerals.{add-one}
 use native.Mathlib.Omega.{arith}
 use mathlib.Core.Path.{_≡_, refl, sym, ap, _∙_}
 use mathlib.Core.List.{List, [], _∷_}
 use mathlib.Core.Bool.{Bool, true, false, cond, _||_}
-use lib.ListN.{length, drop, getD, drop-of-length-le}
-use lib.Seq.{drop-cons}
+use lib.ListN.{length, take, drop, getD, drop-of-length-le}
+use lib.Seq.{drop-cons, length-take-le}
 use lib.Dec.{eqb}
 use borrow.Author.Tests.{eq-eqb, ne-eqb}
 use Rattle.recognisers.specs.Taking.{count, contains, startsWith}
@@ -23,6 +23,27 @@ count-inside test (b ∷ s) = go (test b) (count-inside test s)
     go : (t : Bool) → count test s ≤ length s → cond t (suc (count test s)) 0 ≤ suc (length s)
     go true h = suc-le-suc h
     go false h = zero-le
+
+-- of the first n
+count-take : (test : ℕ → Bool) (n : ℕ) (s : List ℕ) → count test (take n s) ≡ min (count test s) n
+unfolding count
+count-take test zero s = sym (min-zero (count test s))
+count-take test (suc n) [] = sym (zero-min (suc n))
+count-take test (suc n) (b ∷ s) = go (test b) (count-take test n s)
+  where
+    go : (t : Bool) → count test (take n s) ≡ min (count test s) n → cond t (suc (count test (take n s))) 0 ≡ min (cond t (suc (count test s)) 0) (suc n)
+    go true h = ap suc h ∙ sym (suc-min-suc (count test s) n)
+    go false h = sym (zero-min (suc n))
+
+pub five-long : (s : List ℕ) → 5 ≤ length s → _≡_ {A = ℕ} 5 (length (take 5 s))
+five-long s h = sym (length-take-le 5 s h)
+
+module _ (test : ℕ → Bool) (s : List ℕ) (n : ℕ) where
+  pub count-first : n ≡ count test (take 5 s) → n ≡ min (count test s) 5
+  count-first e = e ∙ count-take test 5 s
+
+  pub count-few : length s < 5 → n ≡ count test s → n ≡ min (count test s) 5
+  count-few h e = e ∙ sym (min-eq-left (le-trans (count-inside test s) (omega arith)))
 
 module _ (test : ℕ → Bool) where
   -- the loop stands at i

@@ -43,19 +43,20 @@ fn count_operators(rest: &[u8]) -> usize
     i
 }
 
-fn at_most_five(n: usize) -> usize
-    ensures { λ r. ⌜ r ≡ min n 5 ⌝ }
+// Five bytes are enough to look at.
+fn few_operators(rest: &[u8]) -> usize
+    ensures { λ r. ⌜ r ≡ min (count isOperator (now (rest .entry))) 5 ⌝ }
 {
-    if n < 5 { n } else { 5 }
+    if 5 <= rest.len() {
+        return count_operators(&rest[..5]);
+    }
+    count_operators(rest)
 }
 
 pub fn get_operator_token(rest: &[u8]) -> Recognised
     ensures { λ r. ⌜ r ≡ getOperatorToken (now (rest .entry)) ⌝ }
 {
-    token_of(
-        TokenKind::Operator,
-        at_least(2, at_most_five(count_operators(rest))),
-    )
+    token_of(TokenKind::Operator, at_least(2, few_operators(rest)))
 }
 
 pub fn get_word_token(rest: &[u8]) -> Recognised

@@ -3,11 +3,8 @@ use Rattle.recognisers.specs.Words.{getOperatorToken}
 use Rattle.recognisers.proofs.words.get_operator_token.Statement.{statement}
 use Rattle.recognisers.proofs.words.get_operator_token.Tie as tie
 
-count-operators-requires : tie.Need-count-operators-requires
-count-operators-requires c κs = search needs
-
-at-most-five-requires : tie.Need-at-most-five-requires
-at-most-five-requires c κs = search needs
+few-operators-requires : tie.Need-few-operators-requires
+few-operators-requires c κs = search needs
 
 at-least-requires : tie.Need-at-least-requires
 at-least-requires c κs = search needs
@@ -21,10 +18,4 @@ returns c = cc
 
 pub get-operator-token-spec : {M : Type 1} → statement M
 get-operator-token-spec =
-    tie.close
-    (tie.spec
-    count-operators-requires
-    at-most-five-requires
-    at-least-requires
-    token-of-requires
-    returns)
+    tie.close (tie.spec few-operators-requires at-least-requires token-of-requires returns)
