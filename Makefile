@@ -32,7 +32,7 @@ tables: $(build)/tables
 target/staticlib/lib%.a: crates/%/src/lib.rt FORCE
 	@rt staticlib $* > target/staticlib.log 2>&1 || { cat target/staticlib.log; exit 1; }
 
-$(build)/bench_unicode: bench/unicode.rs tests/unicode/unicode.rs target/staticlib/libunicode_exports.a
+$(build)/bench_unicode: bench/unicode.rs bench/timing.rs tests/unicode/unicode.rs target/staticlib/libunicode_exports.a
 	@mkdir -p $(build)
 	$(rust) -o $@ $< -L target/staticlib -l static=unicode_exports
 
@@ -40,7 +40,7 @@ $(build)/utf8: tests/unicode/utf8.rs tests/unicode/unicode.rs target/staticlib/l
 	@mkdir -p $(build)
 	$(rust) -o $@ $< -L target/staticlib -l static=unicode_exports
 
-$(build)/bench_tokenize: bench/tokenize.rs target/staticlib/libventpeeler.a
+$(build)/bench_tokenize: bench/tokenize.rs bench/timing.rs target/staticlib/libventpeeler.a
 	@mkdir -p $(build)
 	$(rust) -o $@ $< -L target/staticlib -l static=ventpeeler
 

@@ -1,47 +1,16 @@
 // Speed of tokenize through the C boundary, beside std::str::from_utf8 and a copy of the text in the same run; and how its
 // time grows with texts that could be slow.
+mod timing;
+
 use std::hint::black_box;
 use std::time::Instant;
+use timing::{text, time};
 
 extern "C" {
     fn ventpeeler_tokenize(
         statement: *const u8, statement_len: usize, dialect: u64, joins: u64, named: u64,
         records: *mut u8, records_len: usize,
     ) -> u64;
-}
-
-// Nanoseconds of one call, the median of 11 batches.
-fn time(mut call: impl FnMut()) -> f64 {
-    let mut calls = 1;
-    loop {
-        let start = Instant::now();
-        (0..calls).for_each(|_| call());
-        if start.elapsed().as_micros() > 500 {
-            break;
-        }
-        calls *= 2;
-    }
-    let mut batches: Vec<f64> = (0..11)
-        .map(|_| {
-            let start = Instant::now();
-            (0..calls).for_each(|_| call());
-            start.elapsed().as_nanos() as f64 / calls as f64
-        })
-        .collect();
-    batches.sort_by(f64::total_cmp);
-    batches[5]
-}
-
-// The part over and over, up to so many bytes, ending between two characters.
-fn text(part: &str, most: usize) -> Vec<u8> {
-    let mut text = String::new();
-    for c in part.chars().cycle() {
-        if text.len() + c.len_utf8() > most {
-            return text.into_bytes();
-        }
-        text.push(c);
-    }
-    unreachable!()
 }
 
 fn tokenize(text: &[u8], table: &mut [u8]) -> u64 {

@@ -1,42 +1,10 @@
 // Speed of the crate `unicode`, beside std::str::from_utf8 in the same run. Each figure is the median of repeated runs.
+mod timing;
 #[path = "../tests/unicode/unicode.rs"]
 mod unicode;
 
 use std::hint::black_box;
-use std::time::Instant;
-
-// Nanoseconds of one call, the median of 31 batches.
-fn time(mut call: impl FnMut()) -> f64 {
-    let mut calls = 1;
-    loop {
-        let start = Instant::now();
-        (0..calls).for_each(|_| call());
-        if start.elapsed().as_micros() > 500 {
-            break;
-        }
-        calls *= 2;
-    }
-    let mut batches: Vec<f64> = (0..31)
-        .map(|_| {
-            let start = Instant::now();
-            (0..calls).for_each(|_| call());
-            start.elapsed().as_nanos() as f64 / calls as f64
-        })
-        .collect();
-    batches.sort_by(f64::total_cmp);
-    batches[15]
-}
-
-fn text(part: &str, most: usize) -> Vec<u8> {
-    let mut text = String::new();
-    for c in part.chars().cycle() {
-        if text.len() + c.len_utf8() > most {
-            return text.into_bytes();
-        }
-        text.push(c);
-    }
-    unreachable!()
-}
+use timing::{text, time};
 
 fn main() {
     let ascii = "SELECT gap FROM stands WHERE minutes >= ? AND zone = 'F1' ORDER BY start ";
