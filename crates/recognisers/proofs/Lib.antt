@@ -9,3 +9,4 @@ pub mod Blanks
 pub mod Digits
 pub mod PlaceholderLaws
 pub mod Sizes
+pub mod Boundaries

@@ -1,14 +1,14 @@
--- Every token is at least one byte, lies inside the rest, and has its alias and the start of its key inside it.
+-- Every token is at least one byte, lies inside the rest, and has its alias and its key's text inside it.
 -- Assumes nothing.
-use Prim.Native.Nat.{ℕ, zero, suc, _+_, _-_, _≤_, _<_, min, zero-le}
+use Prim.Native.Nat.{ℕ, zero, suc, _+_, _-_, _^_, _≤_, _<_, min, zero-le}
 use native.Mathlib.Nat.{le-refl, le-trans, min-le-left}
 use native.Mathlib.Omega.{arith}
 use mathlib.Core.Path.{_≡_, refl, sym, ap, _∙_}
 use mathlib.Core.List.{List, [], _∷_}
-use mathlib.Core.Bool.{Bool, true, false, cond, _||_}
+use mathlib.Core.Bool.{Bool, true, false, cond, _||_, false≢true}
 use lib.ListN.{length, drop, take, getD}
-use lib.Dec.{leb, eqb}
-use borrow.Author.Tests.{leb-true}
+use lib.Dec.{leb, ltb, eqb}
+use borrow.Author.Tests.{leb-true, ltb-true}
 use Rattle.unicode.specs.Character.{characterLength}
 use Rattle.unicode.specs.Classes.{isWhitespace, isWordCharacter, isPlaceholderNameCharacter}
 use Rattle.unicode.specs.Runs.{inClass, run}
@@ -22,7 +22,7 @@ use Rattle.recognisers.specs.declared.TokenKind.the-variants as K
 use Rattle.recognisers.specs.declared.Dialect.{Dialect}
 use Rattle.recognisers.specs.declared.Dialect.the-variants.{Generic, PostgreSql, SQLServer}
 use Rattle.recognisers.specs.declared.Key.{Key}
-use Rattle.recognisers.specs.declared.Key.the-variants.{None, Named, Escaped}
+use Rattle.recognisers.specs.declared.Key.the-variants.{None, Named, Escaped, ZeroIndexed, OneIndexed}
 use Rattle.recognisers.specs.declared.Number.{Number}
 use Rattle.recognisers.specs.declared.Number.the-variants.{Is, Overflows}
 use Rattle.recognisers.specs.declared.Piece.{Piece}
@@ -36,7 +36,7 @@ use Rattle.recognisers.specs.TypeSpecifier.{getTypeSpecifierToken}
 use Rattle.recognisers.specs.Strings.{closedBy, inSQLServer, hexPart, quotedPart, stringPart, getStringToken, placeholderQuotedPart, placeholderStringPart}
 use Rattle.recognisers.specs.Parens.{inPostgreSql, getOpenParenToken, getCloseParenToken}
 use Rattle.recognisers.specs.Number.{decimalNumber, exponent, scientificNotation, unsigned, getNumberToken}
-use Rattle.recognisers.specs.Placeholder.{keyed, numberOf, indexed, indexedKey, indexedPart, getIndexedPlaceholderToken, placeholderName, identPart, getIdentNamedPlaceholderToken, bracedText, bracedPart, getBracedNamedPlaceholderToken, hasEscape, stringKey, stringNamedPart, getStringNamedPlaceholderToken, getPlaceholderToken}
+use Rattle.recognisers.specs.Placeholder.{keyed, numberFrom, numberOf, indexed, indexedKey, indexedPart, getIndexedPlaceholderToken, placeholderName, identPart, getIdentNamedPlaceholderToken, bracedText, bracedPart, getBracedNamedPlaceholderToken, hasEscape, stringKey, stringNamedPart, getStringNamedPlaceholderToken, getPlaceholderToken}
 use Rattle.recognisers.specs.Words.{getWhitespaceToken, isOperator, getOperatorToken, getWordToken, getAnyOtherChar}
 use Rattle.recognisers.proofs.Counting.{count-inside}
 use Rattle.recognisers.proofs.Inside.{Inside, cond-inside, or-inside, done-inside, one-inside, spelled-inside, end-of-word-inside}
@@ -102,11 +102,27 @@ digit1-some then s = go (leb 1 (count isDigit s)) refl
 
 -- ---- what a recogniser tells of its token
 
+-- a key's text lies inside a token of n bytes, with the closing quote behind it where escapes are to be undone; a number
+-- fits 64 bits
+abbrev pub KeyFits : ℕ → Key → Type 0
+KeyFits n None = Unit {0}
+KeyFits n (Named start len) = start + len ≤ n
+KeyFits n (Escaped start len) = start + len < n
+KeyFits n (ZeroIndexed i) = i < 2 ^ 64
+KeyFits n (OneIndexed i) = i < 2 ^ 64
+
+pub key-start : (n : ℕ) (key : Key) → KeyFits n key → keyStart key ≤ n
+key-start n None h = zero-le
+key-start n (Named start len) h = omega arith
+key-start n (Escaped start len) h = omega arith
+key-start n (ZeroIndexed i) h = zero-le
+key-start n (OneIndexed i) h = zero-le
+
 pub record Sound (s : List ℕ) (p : Piece) : Type 0 where
   pub some : 1 ≤ p .len
   pub inside : p .len ≤ length s
   pub alias-inside : p .alias ≤ p .len
-  pub key-inside : keyStart (p .key) ≤ p .len
+  pub key-inside : KeyFits (p .len) (p .key)
 
 abbrev pub Sized : List ℕ → Recognised → Type 0
 Sized s (Token p) = Sound s p
@@ -117,12 +133,12 @@ alt-sized s (Token p) b h l = h
 alt-sized s Nothing b h l = l
 
 pub token-sized : (s : List ℕ) (kind : TokenKind) (t : Taken) → Least 1 t → taken t ≤ length s → Sized s (tokenOf kind t)
-token-sized s kind (Bytes n) h l = record { some = h; inside = l; alias-inside = le-refl n; key-inside = zero-le }
+token-sized s kind (Bytes n) h l = record { some = h; inside = l; alias-inside = le-refl n; key-inside = tt }
 token-sized s kind Fails h l = tt
 
-keyed-sized : (s : List ℕ) (key : ℕ → Key) (start : ℕ) (t : Taken) → ((n : ℕ) → keyStart (key n) ≤ start) → Least 1 t → Least start t → taken t ≤ length s → Sized s (keyed key t)
-keyed-sized s key start (Bytes n) k h m l = record { some = h; inside = l; alias-inside = le-refl n; key-inside = le-trans (k n) m }
-keyed-sized s key start Fails k h m l = tt
+keyed-sized : (s : List ℕ) (key : ℕ → Key) (least : ℕ) (t : Taken) → ((n : ℕ) → least ≤ n → KeyFits n (key n)) → Least 1 t → Least least t → taken t ≤ length s → Sized s (keyed key t)
+keyed-sized s key least (Bytes n) k h m l = record { some = h; inside = l; alias-inside = le-refl n; key-inside = k n m }
+keyed-sized s key least Fails k h m l = tt
 
 -- ---- each recogniser
 
@@ -274,15 +290,22 @@ number-sized s =
 mark-takes : (test : ℕ → Bool) (then : Part) → Inside then → (s : List ℕ) → Takes 1 s (one test then s)
 mark-takes test then h s = record { least = one-some test then s; inside = one-inside test then h s }
 
-indexed-key : (s : List ℕ) (n : ℕ) → keyStart (indexedKey s n) ≤ 0
-unfolding indexedKey
-indexed-key s n = go (leb n 1) (startsWith (byte "$") s) (numberOf (take (n - 1) (drop 1 s)))
+number-fits : (n i : ℕ) → cond (ltb n (2 ^ 64)) (Is n) Overflows ≡ Is i → i < 2 ^ 64
+number-fits n i e = go (ltb n (2 ^ 64)) refl
   where
-    go : (t f : Bool) (m : Number) → keyStart (cond t None (indexed f m)) ≤ 0
-    go true f m = zero-le
-    go false true (Is i) = zero-le
-    go false false (Is i) = zero-le
-    go false f Overflows = zero-le
+    go : (t : Bool) → ltb n (2 ^ 64) ≡ t → i < 2 ^ 64
+    go true q = let m : _≡_ {A = Number} (Is n) (Is i) = rw q at e in let j : n ≡ i = cc in rw (← j) (ltb-true n (2 ^ 64) q)
+    go false q = let m : _≡_ {A = Number} Overflows (Is i) = rw q at e in let z : _≡_ {A = ℕ} 0 1 = cc in absurd (let y : ⊥ = omega arith in y)
+
+indexed-key : (s : List ℕ) (n : ℕ) → 0 ≤ n → KeyFits n (indexedKey s n)
+unfolding indexedKey
+indexed-key s n h = go (leb n 1) (startsWith (byte "$") s) (numberOf (take (n - 1) (drop 1 s))) refl
+  where
+    go : (t f : Bool) (m : Number) → numberOf (take (n - 1) (drop 1 s)) ≡ m → KeyFits n (cond t None (indexed f m))
+    go true f m e = tt
+    go false true (Is i) e = number-fits (numberFrom 0 (take (n - 1) (drop 1 s))) i e
+    go false false (Is i) e = number-fits (numberFrom 0 (take (n - 1) (drop 1 s))) i e
+    go false f Overflows e = tt
 
 pub indexed-sized : (s : List ℕ) → Sized s (getIndexedPlaceholderToken s)
 unfolding getIndexedPlaceholderToken indexedPart
@@ -295,13 +318,13 @@ pub ident-sized : (s : List ℕ) → Sized s (getIdentNamedPlaceholderToken s)
 unfolding getIdentNamedPlaceholderToken identPart
 ident-sized s =
     let h = mark-takes (contains (bytes "@:$")) placeholderName name-inside s in
-    keyed-sized s (λ n. Named 1 (n - 1)) 1 (one (contains (bytes "@:$")) placeholderName s) (λ n. le-refl 1) (h .least) (h .least) (h .inside)
+    keyed-sized s (λ n. Named 1 (n - 1)) 1 (one (contains (bytes "@:$")) placeholderName s) (λ n k. omega arith) (h .least) (h .least) (h .inside)
 
 pub braced-sized : (s : List ℕ) → Sized s (getBracedNamedPlaceholderToken s)
 unfolding getBracedNamedPlaceholderToken bracedPart
 braced-sized s =
     let h = spelled-takes typed (byte "{") [] bracedText braced-inside s in
-    keyed-sized s (λ n. Named 1 (n - 2)) 1 (spelled typed (bytes "{") bracedText s) (λ n. le-refl 1) (h .least) (h .least) (h .inside)
+    keyed-sized s (λ n. Named 1 (n - 2)) 1 (spelled typed (bytes "{") bracedText s) (λ n k. omega arith) (h .least) (h .least) (h .inside)
 
 placeholder-string-some : (dialect : Dialect) (s : List ℕ) → Least 1 (placeholderStringPart dialect s)
 unfolding placeholderStringPart placeholderQuotedPart
@@ -311,13 +334,19 @@ placeholder-string-some dialect s =
     (or-takes 1 s _ _ (quote (byte "\"") [] (byte "\"") (bytes "\\") s)
     (or-takes 1 s _ _ (quote (byte "'") [] (byte "'") (bytes "\\") s) (quote (byte "N") (bytes "'") (byte "'") (bytes "\\") s)))) .least
 
-string-key : (s : List ℕ) (n : ℕ) → keyStart (stringKey s n) ≤ 2
+-- an escape takes some text
+escape-some : (quote n : ℕ) (s : List ℕ) → hasEscape quote (take n s) ≡ true → 1 ≤ n
+unfolding hasEscape
+escape-some quote zero s e = absurd (false≢true e)
+escape-some quote (suc n) s e = omega arith
+
+string-key : (s : List ℕ) (n : ℕ) → 2 ≤ n → KeyFits n (stringKey s n)
 unfolding stringKey
-string-key s n = go (hasEscape (getD s (n - 1) 0) (take (n - 3) (drop 2 s)))
+string-key s n h = go (hasEscape (getD s (n - 1) 0) (take (n - 3) (drop 2 s))) refl
   where
-    go : (t : Bool) → keyStart (cond t (Escaped 2 (n - 3)) (Named 2 (n - 3))) ≤ 2
-    go true = le-refl 2
-    go false = le-refl 2
+    go : (t : Bool) → hasEscape (getD s (n - 1) 0) (take (n - 3) (drop 2 s)) ≡ t → KeyFits n (cond t (Escaped 2 (n - 3)) (Named 2 (n - 3)))
+    go true e = let k = escape-some (getD s (n - 1) 0) (n - 3) (drop 2 s) e in omega arith
+    go false e = omega arith
 
 pub string-named-sized : (dialect : Dialect) (s : List ℕ) → Sized s (getStringNamedPlaceholderToken dialect s)
 unfolding getStringNamedPlaceholderToken stringNamedPart

@@ -99,11 +99,11 @@ top-level-sized : (last : TopLevel) (s : List ℕ) (t : Taken) → Takes 1 s t �
 top-level-sized last s (Bytes n) h =
     let a = alias-fits (take n s) in
     let l : length (take n s) ≡ n = length-take-le n s (h .inside) in
-    record { some = h .least; inside = h .inside; alias-inside = rw l at a; key-inside = zero-le }
+    record { some = h .least; inside = h .inside; alias-inside = rw l at a; key-inside = tt }
 top-level-sized last s Fails h = tt
 
 newline-sized : (between : Bool) (s : List ℕ) (t : Taken) → Takes 1 s t → Sized s (newlineToken between s t)
-newline-sized between s (Bytes n) h = record { some = h .least; inside = h .inside; alias-inside = le-refl n; key-inside = zero-le }
+newline-sized between s (Bytes n) h = record { some = h .least; inside = h .inside; alias-inside = le-refl n; key-inside = tt }
 newline-sized between s Fails h = tt
 
 -- ---- the six groups

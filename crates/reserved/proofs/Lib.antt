@@ -3,3 +3,4 @@ pub mod Walking
 pub mod Finding
 pub mod Groups
 pub mod Lengths
+pub mod PhraseBoundaries

@@ -44,7 +44,7 @@ use Rattle.tokenizer.proofs.Walking.{left, Moved, moved, past-end}
 
 -- ---- where bytes are left, something is recognised
 
-abbrev Recognises : Recognised → Type 0
+abbrev pub Recognises : Recognised → Type 0
 Recognises (R.Token p) = Unit {0}
 Recognises R.Nothing = ⊥
 

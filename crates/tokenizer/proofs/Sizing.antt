@@ -26,7 +26,7 @@ use Rattle.recognisers.specs.Strings.{getStringToken}
 use Rattle.recognisers.specs.TypeSpecifier.{getTypeSpecifierToken}
 use Rattle.recognisers.specs.Words.{getWhitespaceToken, getOperatorToken, getWordToken, getAnyOtherChar}
 use Rattle.recognisers.proofs.Spelling.{part-end}
-use Rattle.recognisers.proofs.Sizes.{Sized, Sound, alt-sized, whitespace-sized, comment-sized, type-specifier-sized, string-sized, open-paren-sized, close-paren-sized, number-sized, operator-sized, placeholder-sized, word-sized, other-sized}
+use Rattle.recognisers.proofs.Sizes.{Sized, Sound, key-start, alt-sized, whitespace-sized, comment-sized, type-specifier-sized, string-sized, open-paren-sized, close-paren-sized, number-sized, operator-sized, placeholder-sized, word-sized, other-sized}
 use Rattle.reserved.specs.Reserved.{getReservedWordToken}
 use Rattle.reserved.proofs.Lengths.{reserved-sized}
 use Rattle.tokenizer.specs.declared.Cursor.{Cursor}
@@ -119,7 +119,7 @@ module _ (settings : Settings) (s : List ℕ) (cursor : Cursor) (r : Recognised)
 
   pub key-fits : cursor .at < length s → length s < 2 ^ 64 → cursor .at + keyStart (p .key) < 2 ^ 64
   key-fits h l =
-      let a = sound .key-inside in
+      let a = key-start (p .len) (p .key) (sound .key-inside) in
       let b = sound .inside in
       omega (arith, rest-length)
 

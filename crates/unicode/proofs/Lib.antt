@@ -9,4 +9,5 @@ pub mod AsciiTable
 pub mod Decoding
 pub mod Either
 pub mod Characters
+pub mod Cuts
 pub mod RunLaws
