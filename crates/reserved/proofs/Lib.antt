@@ -3,3 +3,5 @@ pub mod Walking
 pub mod Finding
 pub mod Groups
 pub mod Lengths
+pub mod UcExamples
+pub mod UcClasses

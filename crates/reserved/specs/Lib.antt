@@ -1,5 +1,6 @@
 -- The reserved phrases of src/tokenizer.rs and the tokens that they make.
 pub mod Phrases
+pub mod UcWords
 pub mod TopLevel
 pub mod NewlineAfter
 pub mod Newline
