@@ -5,3 +5,4 @@ pub mod Groups
 pub mod Lengths
 pub mod UcExamples
 pub mod UcClasses
+pub mod UcAhead

@@ -145,7 +145,7 @@ capital-space b v = go (within 0x61 0x7A b) refl
         absurd (let z : ⊥ = omega arith in z)
     go false e = sym (capital-other b e) ∙ v
 
-continuation-capital : (b : ℕ) → isContinuation b ≡ true → capital b ≡ b
+pub continuation-capital : (b : ℕ) → isContinuation b ≡ true → capital b ≡ b
 unfolding isContinuation
 continuation-capital b e = capital-other b (above-not 0x61 0x7A b (let l = within-low 0x80 0xBF b e in omega arith))
 
