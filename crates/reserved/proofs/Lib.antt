@@ -6,3 +6,4 @@ pub mod Lengths
 pub mod UcExamples
 pub mod UcClasses
 pub mod UcAhead
+pub mod UcFind
