@@ -7,3 +7,4 @@ pub mod UcExamples
 pub mod UcClasses
 pub mod UcAhead
 pub mod UcFind
+pub mod UcWords
