@@ -8,3 +8,4 @@ pub mod UcClasses
 pub mod UcAhead
 pub mod UcFind
 pub mod UcWords
+pub mod UcGroups
