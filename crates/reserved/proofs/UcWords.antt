@@ -21,8 +21,8 @@ use Rattle.recognisers.proofs.Spelling.{more-zero, more-more, spelled-is}
 use Rattle.reserved.specs.Phrases.{wordStep, walk, after, optional, phrase, phraseIfExists, phraseEnd}
 use Rattle.reserved.specs.UcWords.{trimStart, isEmpty, splitWhitespace, join, getUcWords, lastWord, finalize, opt, ucPhrase, finalized, phraseByUcWords}
 use Rattle.reserved.proofs.Walking.{andThen, walk-step, walk-and}
-use Rattle.reserved.proofs.UcAhead.{begins, shaped, ahead, ahead-end, stands, stands-more, done-alike, end-of-word-alike, stands-alike, letter-shape}
-use Rattle.reserved.proofs.UcFind.{not-fails, Left, left-of, endsItself, finalize-walk}
+use Rattle.reserved.proofs.UcAhead.{begins, shaped, ahead, ahead-end, stands, stands-more, done-alike, end-of-word-alike, stands-alike, letter-shape, no-gap}
+use Rattle.reserved.proofs.UcFind.{not-fails, left-of, letter-of, no-letter-at-end, endsItself, finalize-walk}
 
 -- the words that `get_uc_words` takes, where the text begins with one
 trim-none : (s : List ℕ) → isWhitespace (codePoint s) ≡ false → trimStart s ≡ s
@@ -201,3 +201,32 @@ module _ (n : ℕ) (words s : List ℕ) (h : isPhrase n words ≡ true) (w : isW
             ap (finalized s uc) (opt-no (literal words) (literal exists) (literal-and words) (literal-and exists) uc (ap stands (sym (literal-append words exists done uc)) ∙ (both-stand n h₂ ∙ e)))
             ∙ agrees n words s h w
             ∙ sym (opt-no (walk words) (walk exists) (walk-and words) (walk-and exists) s (ap stands (sym (walk-append words exists done s)) ∙ e))
+
+-- ---- a phrase of one word, which is taken by its own length
+
+single-walk : (words s : List ℕ) (m : ℕ) → shaped 0 words ≡ true → walk words done s ≡ Bytes m → m ≡ length words
+unfolding walk
+single-walk [] s m h e = let f : 0 ≡ m = cc in sym f
+single-walk (p ∷ words) s m h e = go (eqb p 32) refl s e (single-walk words)
+  where
+    go : (t : Bool) → eqb p 32 ≡ t → (s : List ℕ) → walk (p ∷ words) done s ≡ Bytes m → ((t : List ℕ) (k : ℕ) → shaped 0 words ≡ true → walk words done t ≡ Bytes k → k ≡ length words) → m ≡ suc (length words)
+    go true q s f ih = no-gap words (rw (eqb-true p 32 q) at h)
+    go false q [] f ih = no-letter-at-end p words m q f
+    go false q (b ∷ s) f ih =
+        let a = letter-of p words b s m q f in
+        let k = ih s (a .rest .left) (letter-shape 0 p words q h .1) (a .rest .is) in
+        let sum = a .rest .sum in
+        omega arith
+
+pub agrees-one : (words s : List ℕ) → isPhrase 1 words ≡ true → isWhitespace (codePoint s) ≡ false → ucPhrase (phrase words) (getUcWords 1 s) ≡ walk words endOfWord s
+unfolding phraseByUcWords ucPhrase
+agrees-one words s h w = go (literal words endOfWord (getUcWords 1 s)) refl (walk words endOfWord s) refl (agrees 1 words s h w)
+  where
+    go : (t : Taken) → literal words endOfWord (getUcWords 1 s) ≡ t → (u : Taken) → walk words endOfWord s ≡ u
+        → finalized s (getUcWords 1 s) (literal words endOfWord (getUcWords 1 s)) ≡ walk words endOfWord s
+        → t ≡ u
+    go (Bytes k) e (Bytes m) f g =
+        ap Bytes (token-is words (getUcWords 1 s) k e .size ∙ sym (single-walk words s m (is-phrase 0 words h .shape) (walk-done words s m f)))
+    go (Bytes k) e Fails f g = not-fails (finalize s (take k (getUcWords 1 s))) (sym f ∙ (sym g ∙ ap (finalized s (getUcWords 1 s)) e))
+    go Fails e (Bytes m) f g = not-fails m (ap (finalized s (getUcWords 1 s)) (sym e) ∙ (g ∙ f))
+    go Fails e Fails f g = refl
