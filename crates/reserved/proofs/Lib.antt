@@ -3,9 +3,10 @@ pub mod Walking
 pub mod Finding
 pub mod Groups
 pub mod Lengths
-pub mod UcExamples
 pub mod UcClasses
 pub mod UcAhead
 pub mod UcFind
 pub mod UcWords
 pub mod UcGroups
+pub mod UcReserved
+pub mod UcExamples

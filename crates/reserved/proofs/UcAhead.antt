@@ -1,13 +1,13 @@
 -- A phrase stands in the string that `get_uc_words` makes exactly where its words can be walked in the text.
 -- Assumes nothing.
-use Prim.Native.Nat.{ℕ, zero, suc, _+_, _-_, _≤_, _<_, zero-le, suc-le-suc}
+use Prim.Native.Nat.{ℕ, zero, suc}
 use native.Mathlib.Omega.{arith}
 use mathlib.Core.Path.{_≡_, refl, sym, ap, _∙_}
-use mathlib.Core.List.{List, [], _∷_, _++_, map}
-use mathlib.Core.Bool.{Bool, true, false, cond, not, _&&_, _||_, false≢true, and-eq-true-iff}
-use lib.ListN.{length, take, drop}
+use mathlib.Core.List.{List, [], _∷_, _++_}
+use mathlib.Core.Bool.{Bool, true, false, cond, _&&_, false≢true, and-eq-true-iff}
+use lib.ListN.{take, drop}
 use lib.Dec.{eqb}
-use borrow.Author.Tests.{eqb-true, eqb-false, eq-eqb, ne-eqb}
+use borrow.Author.Tests.{eqb-true, eqb-false, ne-eqb}
 use Rattle.unicode.specs.Ranges.{within}
 use Rattle.unicode.specs.Classes.{isWhitespace, isWordCharacter}
 use Rattle.unicode.specs.Character.{isContinuation, continuations, continued, firstBits, withBits, codePoint}
@@ -16,8 +16,8 @@ use Rattle.recognisers.specs.declared.Taken.{Taken}
 use Rattle.recognisers.specs.declared.Taken.the-variants.{Bytes, Fails}
 use Rattle.recognisers.specs.Taking.{Part, more, done, one, typed, spelled, literal, capital, blanks, endOfWord}
 use Rattle.reserved.specs.Phrases.{walk}
-use Rattle.reserved.specs.UcWords.{notWhitespace, trimStart, isEmpty, splitWhitespace, spaced, join, toAsciiUppercase, getUcWords}
-use Rattle.reserved.proofs.UcClasses.{isVisible, visible-alone, visible-first, capital-visible, white-hidden, white-no-word, space-first, other-no-space, end-not-white, end-no-word, letter-word, capital-other, continuation-stays, continuation-capital}
+use Rattle.reserved.specs.UcWords.{notWhitespace, trimStart, isEmpty, splitWhitespace, spaced, toAsciiUppercase}
+use Rattle.reserved.proofs.UcClasses.{isVisible, visible-alone, visible-first, capital-visible, white-no-word, space-first, other-no-space, end-not-white, end-no-word, letter-word, capital-other, continuation-stays, continuation-capital}
 
 -- ---- the shape of a phrase
 

@@ -1,12 +1,12 @@
 -- Whitespace, visible ASCII and word characters: which bytes and code points are which.
 -- Assumes nothing.
-use Prim.Native.Nat.{ℕ, zero, suc, _+_, _-_, _≤_, _<_, zero-le, suc-le-suc}
+use Prim.Native.Nat.{ℕ, _-_, _≤_, _<_, zero-le, suc-le-suc}
 use native.Mathlib.Omega.{arith}
-use mathlib.Core.Path.{_≡_, refl, sym, ap, _∙_}
+use mathlib.Core.Path.{_≡_, refl, sym, _∙_}
 use mathlib.Core.List.{List, [], _∷_}
-use mathlib.Core.Bool.{Bool, true, false, cond, not, _&&_, _||_, false≢true, true≢false, and-eq-true-iff}
+use mathlib.Core.Bool.{Bool, true, false, _&&_, _||_, false≢true, and-eq-true-iff}
 use lib.Dec.{leb, ltb, eqb}
-use borrow.Author.Tests.{lt-ltb, le-ltb, le-leb, lt-leb, leb-true, leb-false, ltb-true, ltb-false, eqb-true, ne-eqb}
+use borrow.Author.Tests.{lt-ltb, le-leb, lt-leb, leb-true, ltb-true, ne-eqb}
 use Rattle.unicode.specs.Ranges.{within, inRanges}
 use Rattle.unicode.specs.WhiteSpace.{whiteSpace}
 use Rattle.unicode.specs.Alphabetic.{alphabetic}
@@ -14,7 +14,7 @@ use Rattle.unicode.specs.Numeric.{numeric}
 use Rattle.unicode.specs.Mark.{mark}
 use Rattle.unicode.specs.Connector.{connector}
 use Rattle.unicode.specs.Classes.{isWhitespace, isAlphabetic, isNumeric, isMark, isPunctuationConnector, isAlphanumeric, isWordCharacter}
-use Rattle.unicode.specs.Character.{isContinuation, continuations, continued, firstBits, withBits, codePoint}
+use Rattle.unicode.specs.Character.{isContinuation, continuations, continued, codePoint}
 use Rattle.unicode.proofs.RunLaws.{ascii-code}
 use Rattle.recognisers.specs.Taking.{capital}
 
@@ -28,11 +28,11 @@ abbrev allApart : List (ℕ × ℕ) → List (ℕ × ℕ) → Bool
 allApart [] others = true
 allApart (range ∷ ranges) others = apart range others && allApart ranges others
 
-within-low : (a b c : ℕ) → within a b c ≡ true → a ≤ c
+pub within-low : (a b c : ℕ) → within a b c ≡ true → a ≤ c
 unfolding within
 within-low a b c e = leb-true a c (and-eq-true-iff (leb a c) (leb c b) .0 e .0)
 
-within-high : (a b c : ℕ) → within a b c ≡ true → c ≤ b
+pub within-high : (a b c : ℕ) → within a b c ≡ true → c ≤ b
 unfolding within
 within-high a b c e = leb-true c b (and-eq-true-iff (leb a c) (leb c b) .0 e .1)
 

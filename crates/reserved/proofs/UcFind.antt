@@ -1,27 +1,27 @@
 -- The first occurrence of a phrase's last word in the text is where it is in the phrase: an occurrence begins in no gap
 -- between two words, and crosses none.
 -- Assumes nothing.
-use Prim.Native.Nat.{ℕ, zero, suc, _+_, _-_, _≤_, _<_, zero-le, suc-le-suc}
-use native.Mathlib.Nat.{le-refl, le-of-suc-le-suc, not-suc-le-zero, add-zero, zero-add}
+use Prim.Native.Nat.{ℕ, zero, suc, _+_, _≤_}
+use native.Mathlib.Nat.{le-of-suc-le-suc, not-suc-le-zero}
 use native.Mathlib.Numerals.{one-add}
 use native.Mathlib.Omega.{arith}
 use mathlib.Core.Path.{_≡_, refl, sym, ap, _∙_}
-use mathlib.Core.List.{List, [], _∷_, _++_, map}
-use mathlib.Core.Bool.{Bool, true, false, cond, not, _&&_, _||_, false≢true, and-eq-true-iff}
-use lib.ListN.{length, take, drop}
+use mathlib.Core.List.{List, [], _∷_}
+use mathlib.Core.Bool.{Bool, true, false, cond, _&&_, false≢true, and-eq-true-iff}
+use lib.ListN.{length, drop}
 use lib.Dec.{eqb}
-use borrow.Author.Tests.{eqb-true, eqb-false, eq-eqb, ne-eqb}
+use borrow.Author.Tests.{eqb-true, eqb-false, ne-eqb}
 use Rattle.unicode.specs.Ranges.{within}
 use Rattle.unicode.specs.Classes.{isWhitespace}
 use Rattle.unicode.specs.Character.{isContinuation, continuations, continued, codePoint}
 use Rattle.unicode.specs.Runs.{run}
 use Rattle.recognisers.specs.declared.Taken.{Taken}
 use Rattle.recognisers.specs.declared.Taken.the-variants.{Bytes, Fails}
-use Rattle.recognisers.specs.Taking.{Part, taken, more, done, typed, isSpelled, capital}
+use Rattle.recognisers.specs.Taking.{taken, more, done, typed, isSpelled, capital}
 use Rattle.recognisers.proofs.Spelling.{more-zero, more-more}
 use Rattle.reserved.specs.Phrases.{walk}
 use Rattle.reserved.specs.UcWords.{trimStart, toAsciiUppercase, find, lastWord, finalize}
-use Rattle.reserved.proofs.UcClasses.{isVisible, white-hidden, end-not-white, continuation-hidden}
+use Rattle.reserved.proofs.UcClasses.{isVisible, white-hidden, continuation-hidden}
 use Rattle.reserved.proofs.UcAhead.{begins, letter-yes, letter-no, letter-end, gap-yes, gap-no}
 
 -- ---- a part that took bytes

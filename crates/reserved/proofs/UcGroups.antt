@@ -1,16 +1,11 @@
 -- The reserved phrases of each group, in the Rust's own way: one test that the checker computes over the tables, and then
---     top-level-agrees .. plain-one-agrees   on any bytes that do not begin with whitespace, a group's first phrase is
---                                            the one that the Rust finds, and takes as many bytes
---     reserved-not-white                     a text that may be a reserved word does not begin with whitespace
+--     top-level-agrees .. plain-one-agrees   on any bytes that do not begin with whitespace, a group's first phrase takes
+--                                            as many bytes as what the Rust finds
 -- Assumes nothing.
-use Prim.Native.Nat.{ℕ, zero, suc, _+_, _-_, _≤_, _<_, zero-le, suc-le-suc}
-use native.Mathlib.Omega.{arith}
-use mathlib.Core.Path.{_≡_, refl, sym, ap, _∙_}
+use Prim.Native.Nat.{ℕ}
+use mathlib.Core.Path.{_≡_, refl, sym, _∙_}
 use mathlib.Core.List.{List, [], _∷_, _++_}
-use mathlib.Core.Bool.{Bool, true, false, cond, not, _&&_, _||_, false≢true, true≢false, and-eq-true-iff}
-use lib.ListN.{length, take, drop, getD}
-use lib.Dec.{eqb}
-use borrow.Author.Tests.{eqb-true}
+use mathlib.Core.Bool.{Bool, true, false, _&&_, false≢true, and-eq-true-iff}
 use Rattle.unicode.specs.Ranges.{within, inRanges}
 use Rattle.unicode.specs.WhiteSpace.{whiteSpace}
 use Rattle.unicode.specs.Classes.{isWhitespace}
@@ -19,9 +14,9 @@ use Rattle.unicode.specs.Runs.{run}
 use Rattle.recognisers.specs.declared.Taken.{Taken}
 use Rattle.recognisers.specs.declared.Taken.the-variants.{Bytes, Fails}
 use Rattle.recognisers.specs.Text.{bytes}
-use Rattle.recognisers.specs.Taking.{Part, more, or, done, typed, isSpelled, literal, capital, endOfWord}
-use Rattle.reserved.specs.Phrases.{Phrase, phrase, phraseIfExists, walk, optional, phraseEnd, firstPhrase, each}
-use Rattle.reserved.specs.UcWords.{splitWhitespace, getUcWords, find, lastWord, finalize, ucPhrase, firstUcPhrase, finalized, phraseByUcWords, firstByUcWords, firstByUcWord}
+use Rattle.recognisers.specs.Taking.{or, typed, isSpelled}
+use Rattle.reserved.specs.Phrases.{Phrase, phrase, phraseIfExists, phraseEnd, firstPhrase, each}
+use Rattle.reserved.specs.UcWords.{splitWhitespace, getUcWords, find, lastWord, ucPhrase, firstUcPhrase, finalized, phraseByUcWords, firstByUcWords, firstByUcWord}
 use Rattle.reserved.specs.TopLevel.{creatable, alterableOrDroppable, eachDropped, topLevelPhrases}
 use Rattle.reserved.specs.NewlineAfter.{newlineAfterPhrases}
 use Rattle.reserved.specs.Newline.{newlinePhrases}

@@ -1,12 +1,11 @@
 -- The Rust's own way to a reserved phrase takes what `walk` takes, on any bytes that do not begin with whitespace.
 -- Assumes nothing.
-use Prim.Native.Nat.{ℕ, zero, suc, _+_, _-_, _≤_, _<_, zero-le, suc-le-suc}
-use native.Mathlib.Nat.{add-zero, zero-add}
-use native.Mathlib.Numerals.{one-add}
+use Prim.Native.Nat.{ℕ, zero, suc}
+use native.Mathlib.Nat.{add-zero}
 use native.Mathlib.Omega.{arith}
 use mathlib.Core.Path.{_≡_, refl, sym, ap, _∙_}
-use mathlib.Core.List.{List, [], _∷_, _++_, map}
-use mathlib.Core.Bool.{Bool, true, false, cond, not, _&&_, _||_, false≢true, true≢false, and-eq-true-iff}
+use mathlib.Core.List.{List, [], _∷_, _++_}
+use mathlib.Core.Bool.{Bool, true, false, cond, _&&_, false≢true, true≢false, and-eq-true-iff}
 use lib.ListN.{length, take, drop}
 use lib.Dec.{eqb}
 use borrow.Author.Tests.{eqb-true}
@@ -17,11 +16,11 @@ use Rattle.recognisers.specs.declared.Taken.{Taken}
 use Rattle.recognisers.specs.declared.Taken.the-variants.{Bytes, Fails}
 use Rattle.recognisers.specs.Text.{bytes}
 use Rattle.recognisers.specs.Taking.{Part, more, done, one, typed, isSpelled, spelled, literal, endOfWord}
-use Rattle.recognisers.proofs.Spelling.{more-zero, more-more, spelled-is}
-use Rattle.reserved.specs.Phrases.{wordStep, walk, after, optional, phrase, phraseIfExists, phraseEnd}
-use Rattle.reserved.specs.UcWords.{trimStart, isEmpty, splitWhitespace, join, getUcWords, lastWord, finalize, opt, ucPhrase, finalized, phraseByUcWords}
+use Rattle.recognisers.proofs.Spelling.{spelled-is}
+use Rattle.reserved.specs.Phrases.{wordStep, walk, after, optional, phrase, phraseIfExists}
+use Rattle.reserved.specs.UcWords.{trimStart, splitWhitespace, getUcWords, lastWord, finalize, opt, ucPhrase, finalized, phraseByUcWords}
 use Rattle.reserved.proofs.Walking.{andThen, walk-step, walk-and}
-use Rattle.reserved.proofs.UcAhead.{begins, shaped, ahead, ahead-end, stands, stands-more, done-alike, end-of-word-alike, stands-alike, letter-shape, no-gap}
+use Rattle.reserved.proofs.UcAhead.{begins, shaped, ahead, ahead-end, stands, done-alike, end-of-word-alike, stands-alike, letter-shape, no-gap}
 use Rattle.reserved.proofs.UcFind.{not-fails, left-of, letter-of, no-letter-at-end, endsItself, finalize-walk}
 
 -- the words that `get_uc_words` takes, where the text begins with one

@@ -8,4 +8,5 @@ pub mod Join
 pub mod NoIndent
 pub mod Plain
 pub mod Reserved
+pub mod UcReserved
 pub mod Entries
