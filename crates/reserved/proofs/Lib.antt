@@ -9,4 +9,6 @@ pub mod UcFind
 pub mod UcWords
 pub mod UcGroups
 pub mod UcReserved
+pub mod UcChoices
+pub mod UcArms
 pub mod UcExamples

@@ -2,6 +2,7 @@
 pub mod Phrases
 pub mod UcWords
 pub mod TopLevel
+pub mod UcChoices
 pub mod NewlineAfter
 pub mod Newline
 pub mod Join
