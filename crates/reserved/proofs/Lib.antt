@@ -1,4 +1,4 @@
--- Laws that the proofs cite.
+-- Laws that the proofs cite, and those of the Rust's own form of the definitions (Uc..).
 pub mod Walking
 pub mod Finding
 pub mod Groups
@@ -8,7 +8,7 @@ pub mod UcAhead
 pub mod UcFind
 pub mod UcWords
 pub mod UcGroups
-pub mod UcReserved
 pub mod UcChoices
 pub mod UcArms
+pub mod UcReserved
 pub mod UcExamples

@@ -237,14 +237,14 @@ module _ (then : Part) where
         lit : List ℕ → Taken
         lit u = literal (32 ∷ words) then u
 
-        inGap : (t : List ℕ) → trimStart (b ∷ s) ≡ t → isWhitespace (codePoint (b ∷ s)) ≡ true → stands (literal (32 ∷ words) then (cond (isEmpty t) [] (32 ∷ ahead 0 n t))) ≡ stands (walk words then t)
-        inGap [] q w = fails-both (lit []) (walk words then []) (lit-end then 32 words) (begins-end then words h)
-        inGap (c ∷ t) q w = rw (lit-yes then 32 words 32 (ahead 0 n (c ∷ t)) refl, stands-more 1 (literal words then (ahead 0 n (c ∷ t)))) (ih (c ∷ t))
+        inGap : (t : List ℕ) → stands (literal (32 ∷ words) then (cond (isEmpty t) [] (32 ∷ ahead 0 n t))) ≡ stands (walk words then t)
+        inGap [] = fails-both (lit []) (walk words then []) (lit-end then 32 words) (begins-end then words h)
+        inGap (c ∷ t) = rw (lit-yes then 32 words 32 (ahead 0 n (c ∷ t)) refl, stands-more 1 (literal words then (ahead 0 n (c ∷ t)))) (ih (c ∷ t))
 
         go : (t : Bool) → isWhitespace (codePoint (b ∷ s)) ≡ t → Agree (32 ∷ words) (suc n) (b ∷ s)
         go true w =
             ap (λ (u : List ℕ). stands (literal (32 ∷ words) then u)) (ahead-white (suc n) b s w ∙ spaced-one n (b ∷ s))
-            ∙ inGap (trimStart (b ∷ s)) refl w
+            ∙ inGap (trimStart (b ∷ s))
             ∙ sym (ap stands (gap-yes then words (b ∷ s) w) ∙ stands-more (run isWhitespace 0 (b ∷ s)) (walk words then (trimStart (b ∷ s))))
         go false w =
             fails-both (lit (ahead 0 (suc n) (b ∷ s))) (walk (32 ∷ words) then (b ∷ s))

@@ -1,17 +1,23 @@
--- The alternatives of `get_top_level_reserved_token`, nested as in the Rust, are `topLevelPhrases`.
+-- The alternatives of `get_top_level_reserved_token`, nested as in the Rust, are `topLevelPhrases`; and the phrases of the
+-- text's first letter find what all find.
 -- Assumes nothing.
 use mathlib.Core.Path.{_≡_, refl, sym, ap, _∙_}
-use Prim.Native.Nat.{ℕ}
+use Prim.Native.Nat.{ℕ, suc}
 use mathlib.Core.List.{List, [], _∷_, _++_}
-use mathlib.Core.Bool.{Bool, true, _&&_, and-eq-true-iff}
+use mathlib.Core.Bool.{Bool, true, false, cond, _&&_, and-eq-true-iff}
+use lib.Dec.{eqb}
+use Rattle.unicode.specs.Classes.{isWhitespace}
+use Rattle.unicode.specs.Character.{continuations, continued, codePoint}
 use Rattle.recognisers.specs.declared.Taken.{Taken}
 use Rattle.recognisers.specs.declared.Taken.the-variants.{Bytes, Fails}
 use Rattle.recognisers.specs.Text.{bytes}
-use Rattle.recognisers.specs.Taking.{Part, or, typed, isSpelled, spelled, endOfWord}
+use Rattle.recognisers.specs.Taking.{Part, or, typed, isSpelled, spelled, literal, capital, endOfWord}
 use Rattle.reserved.specs.Phrases.{Phrase, phrase, phraseIfExists, each}
 use Rattle.reserved.specs.TopLevel.{creatable, alterableOrDroppable, eachDropped, topLevelPhrases}
-use Rattle.reserved.specs.UcWords.{opt, ucPhrase, firstUcPhrase}
+use Rattle.reserved.specs.UcWords.{getUcWords, opt, ucPhrase, firstUcPhrase}
 use Rattle.reserved.specs.UcChoices.{Choice, behind, choose, Arm, ended, endedIfExists, armEnd, firstArm, create, forLock, topLevelArms}
+use Rattle.reserved.proofs.UcAhead.{lit-no, ahead, ahead-letter}
+use Rattle.reserved.proofs.UcWords.{uc-ahead}
 use Rattle.reserved.proofs.UcChoices.{firstThen, own, clear, or-fails, commits}
 
 -- ---- an arm
@@ -93,3 +99,34 @@ top-level-written = refl
 
 pub top-level-arms : (s : List ℕ) → firstArm topLevelArms s ≡ firstUcPhrase topLevelPhrases s
 top-level-arms s = arms-are topLevelArms s top-level-clear ∙ ap (λ (phrases : List Phrase). firstUcPhrase phrases s) top-level-written
+
+-- ---- `match first_char`: a phrase of another letter fails, so the phrases of the letter are enough
+
+abbrev pub startingWith : ℕ → List Phrase → List Phrase
+startingWith c [] = []
+startingWith c (phrase [] ∷ phrases) = phrase [] ∷ startingWith c phrases
+startingWith c (phrase (p ∷ words) ∷ phrases) = cond (eqb c p) (phrase (p ∷ words) ∷ startingWith c phrases) (startingWith c phrases)
+startingWith c (phraseIfExists [] ∷ phrases) = phraseIfExists [] ∷ startingWith c phrases
+startingWith c (phraseIfExists (p ∷ words) ∷ phrases) =
+    cond (eqb c p) (phraseIfExists (p ∷ words) ∷ startingWith c phrases) (startingWith c phrases)
+
+pub by-letter : (c : ℕ) (uc : List ℕ) (phrases : List Phrase) → firstUcPhrase phrases (c ∷ uc) ≡ firstUcPhrase (startingWith c phrases) (c ∷ uc)
+unfolding firstUcPhrase ucPhrase
+by-letter c uc [] = refl
+by-letter c uc (phrase [] ∷ phrases) = rw (by-letter c uc phrases)
+by-letter c uc (phrase (p ∷ words) ∷ phrases) = rw (by-letter c uc phrases) (go (eqb c p) refl)
+  where
+    go : (t : Bool) → eqb c p ≡ t → or (literal (p ∷ words) endOfWord (c ∷ uc)) (firstUcPhrase (startingWith c phrases) (c ∷ uc)) ≡ firstUcPhrase (cond t (phrase (p ∷ words) ∷ startingWith c phrases) (startingWith c phrases)) (c ∷ uc)
+    go true e = refl
+    go false e = rw (lit-no endOfWord p words c uc e)
+by-letter c uc (phraseIfExists [] ∷ phrases) = rw (by-letter c uc phrases)
+by-letter c uc (phraseIfExists (p ∷ words) ∷ phrases) = rw (by-letter c uc phrases) (go (eqb c p) refl)
+  where
+    go : (t : Bool) → eqb c p ≡ t → or (literal (p ∷ words) (opt (bytes " IF EXISTS") endOfWord) (c ∷ uc)) (firstUcPhrase (startingWith c phrases) (c ∷ uc)) ≡ firstUcPhrase (cond t (phraseIfExists (p ∷ words) ∷ startingWith c phrases) (startingWith c phrases)) (c ∷ uc)
+    go true e = refl
+    go false e = rw (lit-no (opt (bytes " IF EXISTS") endOfWord) p words c uc e)
+
+pub by-first-char : (n b : ℕ) (s : List ℕ) (phrases : List Phrase) → isWhitespace (codePoint (b ∷ s)) ≡ false
+    → firstUcPhrase phrases (getUcWords (suc n) (b ∷ s)) ≡ firstUcPhrase (startingWith (capital b) phrases) (getUcWords (suc n) (b ∷ s))
+by-first-char n b s phrases w =
+    rw (uc-ahead n (b ∷ s) w ∙ ahead-letter n b s w) (by-letter (capital b) (ahead (continued (continuations b) s) n s) phrases)

@@ -1,25 +1,22 @@
 -- Nested alternatives are the phrases written out where no choice hides another, that is where no two that are to be told
 -- apart can stand at one place (`clear`, a test that computes).
 -- Assumes nothing.
-use Prim.Native.Nat.{ℕ, zero, suc, _+_}
-use native.Mathlib.Nat.{add-zero, zero-add}
+use Prim.Native.Nat.{ℕ}
+use native.Mathlib.Nat.{add-zero}
 use mathlib.Core.Path.{_≡_, refl, sym, ap, _∙_}
 use mathlib.Core.List.{List, [], _∷_, _++_}
-use mathlib.Core.Bool.{Bool, true, false, cond, not, _&&_, _||_, false≢true, true≢false, and-eq-true-iff}
+use mathlib.Core.Bool.{Bool, true, false, cond, not, _&&_, _||_, false≢true, and-eq-true-iff}
 use lib.ListN.{length, drop}
 use lib.Seq.{drop-drop}
 use lib.Dec.{eqb}
 use borrow.Author.Tests.{eqb-true, eq-eqb}
 use Rattle.recognisers.specs.declared.Taken.{Taken}
 use Rattle.recognisers.specs.declared.Taken.the-variants.{Bytes, Fails}
-use Rattle.recognisers.specs.Text.{bytes}
-use Rattle.recognisers.specs.Taking.{Part, more, or, done, one, typed, isSpelled, spelled, literal, endOfWord}
+use Rattle.recognisers.specs.Taking.{Part, more, or, done, typed, isSpelled, literal}
 use Rattle.recognisers.proofs.Spelling.{more-zero, more-more, spelled-is}
-use Rattle.reserved.specs.Phrases.{Phrase, phrase, phraseIfExists, each}
-use Rattle.reserved.specs.TopLevel.{creatable, alterableOrDroppable, eachDropped, topLevelPhrases}
-use Rattle.reserved.specs.UcWords.{opt, ucPhrase, firstUcPhrase}
-use Rattle.reserved.specs.UcChoices.{Choice, words, both, either, maybe, behind, firstWord, choose, Arm, ended, endedIfExists, armEnd, firstArm, create, forLock, topLevelArms}
+use Rattle.reserved.specs.UcChoices.{Choice, words, both, either, maybe, behind, firstWord, choose}
 use Rattle.reserved.proofs.UcFind.{not-fails, left-of}
+use Rattle.reserved.proofs.UcWords.{literal-append}
 
 -- ---- taking one after the other
 
@@ -210,12 +207,6 @@ clear (words ws) B = eachApart ws
 clear (both a b) B = clear a (written b B) && clear b B
 clear (either a b) B = (clear a B && clear b B) && allApart (own a) (written b B)
 clear (maybe a) B = clear a B && allApart (own a) B
-
-literal-append : (w x : List ℕ) (then : Part) (s : List ℕ) → literal (w ++ x) then s ≡ literal w (literal x then) s
-unfolding spelled one
-literal-append [] x then s = refl
-literal-append (c ∷ w) x then [] = refl
-literal-append (c ∷ w) x then (b ∷ s) = rw (literal-append w x then s)
 
 or-behind : (t : Taken) (a b : Part) (s : List ℕ) → or (behind t a s) (behind t b s) ≡ behind t (λ u. or (a u) (b u)) s
 or-behind (Bytes n) a b s = go (a (drop n s))

@@ -1,7 +1,7 @@
 -- `get_reserved_word_token` in the Rust's own way is `getReservedWordToken`, on all bytes.
 -- Assumes nothing.
 use Prim.Native.Nat.{ℕ}
-use mathlib.Core.Path.{_≡_, refl}
+use mathlib.Core.Path.{_≡_, refl, sym, ap, _∙_}
 use mathlib.Core.List.{List, [], _∷_}
 use mathlib.Core.Bool.{Bool, true, false, _||_, false≢true}
 use lib.Dec.{eqb}
@@ -13,8 +13,13 @@ use Rattle.unicode.specs.Character.{codePoint}
 use Rattle.recognisers.specs.Taking.{capital, startsWith}
 use Rattle.reserved.specs.declared.TopLevel.{TopLevel}
 use Rattle.reserved.specs.Reserved.{mayBeReserved, getTopLevelReservedToken, getNewlineAfterReservedToken, getNewlineReservedToken, getJoinToken, getTopLevelReservedTokenNoIndent, getPlainReservedToken, getReservedWordToken}
+use Rattle.reserved.specs.Phrases.{firstPhrase}
+use Rattle.reserved.specs.TopLevel.{topLevelPhrases}
+use Rattle.reserved.specs.UcWords.{getUcWords, finalized, firstByUcWords}
+use Rattle.reserved.specs.UcChoices.{topLevelByUcWords}
 use Rattle.reserved.specs.UcReserved.{getReservedWordTokenByUcWords}
 use Rattle.reserved.proofs.UcClasses.{isVisible, within-low, within-high, within-is, capital-visible, visible-first}
+use Rattle.reserved.proofs.UcArms.{top-level-arms}
 use Rattle.reserved.proofs.UcGroups.{top-level-agrees, newline-after-agrees, newline-agrees, join-agrees, no-indent-agrees, plain-two-agrees, plain-one-agrees}
 
 -- a letter or `$` is no whitespace
@@ -31,6 +36,10 @@ reserved-not-white (b ∷ s) e = visible-first b s (go (within 65 90 (capital b)
     go false q true r o = rw (eqb-true b 36 r)
     go false q false r o = absurd (false≢true o)
 
+top-level-is : (s : List ℕ) → isWhitespace (codePoint s) ≡ false → firstPhrase topLevelPhrases s ≡ topLevelByUcWords s
+unfolding topLevelByUcWords firstByUcWords
+top-level-is s w = top-level-agrees s w ∙ ap (finalized s (getUcWords 4 s)) (sym (top-level-arms (getUcWords 4 s)))
+
 pub reserved-by-uc-words : (afterDot afterBetween : Bool) (last : TopLevel) (s : List ℕ) → getReservedWordToken afterDot afterBetween last s ≡ getReservedWordTokenByUcWords afterDot afterBetween last s
 unfolding getReservedWordToken getReservedWordTokenByUcWords getTopLevelReservedToken getNewlineAfterReservedToken getNewlineReservedToken getJoinToken getTopLevelReservedTokenNoIndent getPlainReservedToken
 reserved-by-uc-words true afterBetween last s = refl
@@ -39,5 +48,5 @@ reserved-by-uc-words false afterBetween last s = go (mayBeReserved s) refl
     go : (t : Bool) → mayBeReserved s ≡ t → getReservedWordToken false afterBetween last s ≡ getReservedWordTokenByUcWords false afterBetween last s
     go true m =
         let w = reserved-not-white s m in
-        rw (top-level-agrees s w, newline-after-agrees s w, newline-agrees s w, join-agrees s w, no-indent-agrees s w, plain-two-agrees s w, plain-one-agrees s w)
+        rw (top-level-is s w, newline-after-agrees s w, newline-agrees s w, join-agrees s w, no-indent-agrees s w, plain-two-agrees s w, plain-one-agrees s w)
     go false m = rw m

@@ -29,7 +29,7 @@ unfolding run
 trim-none [] w = refl
 trim-none (b ∷ s) w = rw w
 
-uc-ahead : (n : ℕ) (s : List ℕ) → isWhitespace (codePoint s) ≡ false → getUcWords (suc n) s ≡ ahead 0 n s
+pub uc-ahead : (n : ℕ) (s : List ℕ) → isWhitespace (codePoint s) ≡ false → getUcWords (suc n) s ≡ ahead 0 n s
 unfolding getUcWords splitWhitespace
 uc-ahead n [] w = rw (trim-none [] w) (sym (ahead-end 0 n))
 uc-ahead n (b ∷ s) w = rw (trim-none (b ∷ s) w)
@@ -86,7 +86,6 @@ isPhrase zero words = false
 isPhrase (suc n) words = (begins words && shaped n words) && endsItself words (lastWord words)
 
 record IsPhrase (n : ℕ) (words : List ℕ) : Type 0 where
-  has : begins words ≡ true
   shape : shaped n words ≡ true
   ends : endsItself words (lastWord words) ≡ true
 
@@ -94,7 +93,7 @@ is-phrase : (n : ℕ) (words : List ℕ) → isPhrase (suc n) words ≡ true →
 is-phrase n words h =
     let h₂ = and-eq-true-iff (begins words && shaped n words) (endsItself words (lastWord words)) .0 h in
     let h₃ = and-eq-true-iff (begins words) (shaped n words) .0 (h₂ .0) in
-    record { has = h₃ .0; shape = h₃ .1; ends = h₂ .1 }
+    record { shape = h₃ .1; ends = h₂ .1 }
 
 pub agrees : (n : ℕ) (words s : List ℕ) → isPhrase n words ≡ true → isWhitespace (codePoint s) ≡ false → phraseByUcWords n (phrase words) s ≡ walk words endOfWord s
 unfolding phraseByUcWords ucPhrase
@@ -164,7 +163,7 @@ literal-and words then s =
     go true = rw (add-zero (length words))
     go false = refl
 
-literal-append : (words more : List ℕ) (then : Part) (s : List ℕ) → literal (words ++ more) then s ≡ literal words (literal more then) s
+pub literal-append : (words more : List ℕ) (then : Part) (s : List ℕ) → literal (words ++ more) then s ≡ literal words (literal more then) s
 unfolding spelled one
 literal-append [] more then s = refl
 literal-append (p ∷ words) more then [] = refl

@@ -8,7 +8,7 @@ use Rattle.recognisers.specs.declared.Taken.the-variants.{Bytes, Fails}
 use Rattle.recognisers.specs.Text.{bytes}
 use Rattle.recognisers.specs.Taking.{Part, more, or, done, literal, endOfWord}
 use Rattle.reserved.specs.TopLevel.{creatable, alterableOrDroppable}
-use Rattle.reserved.specs.UcWords.{opt}
+use Rattle.reserved.specs.UcWords.{getUcWords, opt, finalized}
 
 pub data Choice : Type 0 where
   -- `alt` of words
@@ -104,3 +104,6 @@ topLevelArms =
     ∷ ended (word (bytes "WHERE"))
     ∷ ended (word (bytes "WINDOW"))
     ∷ []
+
+unfoldable pub topLevelByUcWords : Part
+topLevelByUcWords s = finalized s (getUcWords 4 s) (firstArm topLevelArms (getUcWords 4 s))

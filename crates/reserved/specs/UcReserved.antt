@@ -8,7 +8,6 @@ use Rattle.recognisers.specs.declared.Recognised.{Recognised}
 use Rattle.recognisers.specs.declared.Recognised.the-variants.{Nothing}
 use Rattle.recognisers.specs.Pieces.{tokenOf, alt}
 use Rattle.reserved.specs.declared.TopLevel.{TopLevel}
-use Rattle.reserved.specs.TopLevel.{topLevelPhrases}
 use Rattle.reserved.specs.NewlineAfter.{newlineAfterPhrases}
 use Rattle.reserved.specs.Newline.{newlinePhrases}
 use Rattle.reserved.specs.Join.{joinPhrases}
@@ -16,11 +15,12 @@ use Rattle.reserved.specs.NoIndent.{noIndentPhrases}
 use Rattle.reserved.specs.Plain.{plainTwoPhrases, plainOnePhrases}
 use Rattle.reserved.specs.Reserved.{topLevelToken, newlineToken, mayBeReserved}
 use Rattle.reserved.specs.UcWords.{firstByUcWords, firstByUcWord}
+use Rattle.reserved.specs.UcChoices.{topLevelByUcWords}
 
 unfoldable pub getReservedWordTokenByUcWords : Bool → Bool → TopLevel → List ℕ → Recognised
 getReservedWordTokenByUcWords afterDot afterBetween last s =
     cond (afterDot || not (mayBeReserved s)) Nothing
-    (alt (topLevelToken last s (firstByUcWords 4 topLevelPhrases s))
+    (alt (topLevelToken last s (topLevelByUcWords s))
     (alt (tokenOf ReservedNewlineAfter (firstByUcWords 3 newlineAfterPhrases s))
     (alt (newlineToken afterBetween s (firstByUcWords 3 newlinePhrases s))
     (alt (tokenOf Join (firstByUcWords 3 joinPhrases s))
