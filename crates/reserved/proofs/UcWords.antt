@@ -17,7 +17,7 @@ use Rattle.recognisers.specs.declared.Taken.the-variants.{Bytes, Fails}
 use Rattle.recognisers.specs.Text.{bytes}
 use Rattle.recognisers.specs.Taking.{Part, more, done, one, typed, isSpelled, spelled, literal, endOfWord}
 use Rattle.recognisers.proofs.Spelling.{spelled-is}
-use Rattle.reserved.specs.Phrases.{wordStep, walk, after, optional, phrase, phraseIfExists}
+use Rattle.reserved.specs.Phrases.{walk, after, optional, phrase, phraseIfExists}
 use Rattle.reserved.specs.UcWords.{trimStart, splitWhitespace, getUcWords, lastWord, finalize, opt, ucPhrase, finalized, phraseByUcWords}
 use Rattle.reserved.proofs.Walking.{andThen, walk-step, walk-and}
 use Rattle.reserved.proofs.UcAhead.{begins, shaped, ahead, ahead-end, stands, done-alike, end-of-word-alike, stands-alike, letter-shape, no-gap}
@@ -149,7 +149,7 @@ walk-append : (words more : List ℕ) (then : Part) (s : List ℕ) → walk (wor
 unfolding walk
 walk-append [] more then s = refl
 walk-append (p ∷ words) more then s =
-    walk-step p (words ++ more) then s ∙ go (wordStep p s) (walk-append words more then) ∙ sym (walk-step p words (walk more then) s)
+    walk-step p (words ++ more) then s ∙ go (walk (p ∷ []) done s) (walk-append words more then) ∙ sym (walk-step p words (walk more then) s)
   where
     go : (t : Taken) → ((u : List ℕ) → walk (words ++ more) then u ≡ walk words (walk more then) u) → andThen t (walk (words ++ more) then) s ≡ andThen t (walk words (walk more then)) s
     go (Bytes n) ih = rw (ih (drop n s))
