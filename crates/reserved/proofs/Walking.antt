@@ -24,7 +24,7 @@ use Rattle.recognisers.specs.Text.{byte, bytes}
 use Rattle.recognisers.proofs.Spelling.{part-end, more-zero, more-more}
 use Rattle.recognisers.proofs.Inside.{Inside, done-inside, one-inside, end-of-word-inside, fits-more}
 use Rattle.recognisers.proofs.Blanks.{blanks-none, blanks-then, blanks-inside}
-use Rattle.reserved.specs.Phrases.{wordStep, walk, after, optional}
+use Rattle.reserved.specs.Phrases.{walk, after, optional}
 use Rattle.reserved.specs.Entries.{ifExists, ending, entryEnd}
 
 -- what a part takes, and then another: no way back
@@ -49,8 +49,8 @@ blanks-and then s = go (isWhitespace (codePoint s))
     go true = rw (add-zero (run isWhitespace 0 s))
     go false = refl
 
-pub walk-step : (p : ℕ) (words : List ℕ) (then : Part) (s : List ℕ) → walk (p ∷ words) then s ≡ andThen (wordStep p s) (walk words then) s
-unfolding walk wordStep
+pub walk-step : (p : ℕ) (words : List ℕ) (then : Part) (s : List ℕ) → walk (p ∷ words) then s ≡ andThen (walk (p ∷ []) done s) (walk words then) s
+unfolding walk
 walk-step p words then s = go (eqb p 32)
   where
     go : (t : Bool) → cond t (blanks (walk words then) s) (one (λ b. eqb (capital b) p) (walk words then) s) ≡ andThen (cond t (blanks done s) (one (λ b. eqb (capital b) p) done s)) (walk words then) s
@@ -62,7 +62,7 @@ unfolding walk
 walk-and [] then s = sym (more-zero (then s))
 walk-and (p ∷ words) then s =
     walk-step p words then s
-    ∙ go (wordStep p s) (λ n. walk-and words then (drop n s))
+    ∙ go (walk (p ∷ []) done s) (λ n. walk-and words then (drop n s))
     ∙ ap (λ (t : Taken). andThen t then s) (sym (walk-step p words done s))
   where
     both : (n : ℕ) (o : Taken) → more n (andThen o then (drop n s)) ≡ andThen (more n o) then s
@@ -83,8 +83,8 @@ walk-inside (p ∷ words) then h s = go (eqb p 32) (walk-inside words then h)
     go true rest = blanks-inside (walk words then) rest s
     go false rest = one-inside (λ b. eqb (capital b) p) (walk words then) rest s
 
-step-inside : (p : ℕ) → Inside (wordStep p)
-unfolding wordStep
+step-inside : (p : ℕ) → Inside (walk (p ∷ []) done)
+unfolding walk
 step-inside p s = go (eqb p 32)
   where
     go : (t : Bool) → taken (cond t (blanks done s) (one (λ b. eqb (capital b) p) done s)) ≤ length s
@@ -95,17 +95,17 @@ step-inside p s = go (eqb p 32)
 
 module _ (s : List ℕ) (p : ℕ) where
   module _ (n : ℕ) (e : p ≡ 32) (r : n ≡ run (inClass Whitespace) 0 s) where
-    pub gap-none : n ≡ 0 → Fails ≡ wordStep p s
-    unfolding wordStep
+    pub gap-none : n ≡ 0 → Fails ≡ walk (p ∷ []) done s
+    unfolding walk
     gap-none z = blanks-none s n r done z ∙ rw (eq-eqb p 32 e)
 
-    pub gap-taken : (n ≡ 0 → ⊥) → Bytes n ≡ wordStep p s
-    unfolding wordStep
+    pub gap-taken : (n ≡ 0 → ⊥) → Bytes n ≡ walk (p ∷ []) done s
+    unfolding walk
     gap-taken z = blanks-then s n r done (Bytes 0) (Bytes n) z refl (ap Bytes (sym (add-zero n))) ∙ rw (eq-eqb p 32 e)
 
   module _ (ne : p ≡ 32 → ⊥) where
-    pub letter-none : length s ≡ 0 → Fails ≡ wordStep p s
-    unfolding wordStep one
+    pub letter-none : length s ≡ 0 → Fails ≡ walk (p ∷ []) done s
+    unfolding walk one
     letter-none z = go s refl
       where
         go : (t : List ℕ) → s ≡ t → Fails ≡ cond (eqb p 32) (blanks done s) (one (λ b. eqb (capital b) p) done s)
@@ -113,8 +113,8 @@ module _ (s : List ℕ) (p : ℕ) where
         go (b ∷ t) q = absurd (let l : length (b ∷ t) ≡ 0 = rw q at z in let y : ⊥ = omega arith in y)
 
     module _ (some : length s ≡ 0 → ⊥) (x : ℕ) (c : x ≡ capital (getD s 0 0)) where
-      pub letter-taken : x ≡ p → Bytes 1 ≡ wordStep p s
-      unfolding wordStep one
+      pub letter-taken : x ≡ p → Bytes 1 ≡ walk (p ∷ []) done s
+      unfolding walk one
       letter-taken e = go s refl
         where
           go : (t : List ℕ) → s ≡ t → Bytes 1 ≡ cond (eqb p 32) (blanks done s) (one (λ b. eqb (capital b) p) done s)
@@ -123,8 +123,8 @@ module _ (s : List ℕ) (p : ℕ) where
               let d : capital b ≡ p = sym (rw q at c) ∙ e in
               rw (ne-eqb p 32 ne, q, eq-eqb (capital b) p d)
 
-      pub letter-other : (x ≡ p → ⊥) → Fails ≡ wordStep p s
-      unfolding wordStep one
+      pub letter-other : (x ≡ p → ⊥) → Fails ≡ walk (p ∷ []) done s
+      unfolding walk one
       letter-other e = go s refl
         where
           go : (t : List ℕ) → s ≡ t → Fails ≡ cond (eqb p 32) (blanks done s) (one (λ b. eqb (capital b) p) done s)
@@ -143,9 +143,9 @@ pub record WalkAt (words s : List ℕ) (at i : ℕ) : Type 0 where
 pub walk-start : (words s : List ℕ) → WalkAt words s 0 0
 walk-start words s = record { inside = zero-le; there = zero-le; same = sym (more-zero (walk words done s)) }
 
-module _ (words s : List ℕ) (at i : ℕ) (w : WalkAt words s at i) (h : i < length words) (t : Taken) (e : t ≡ wordStep (getD words i 0) (take (length s - at) (drop at s))) where
-  t-is : t ≡ wordStep (getD words i 0) (drop at s)
-  t-is = e ∙ ap (wordStep (getD words i 0)) (part-end s at)
+module _ (words s : List ℕ) (at i : ℕ) (w : WalkAt words s at i) (h : i < length words) (t : Taken) (e : t ≡ walk (getD words i 0 ∷ []) done (take (length s - at) (drop at s))) where
+  t-is : t ≡ walk (getD words i 0 ∷ []) done (drop at s)
+  t-is = e ∙ ap (walk (getD words i 0 ∷ []) done) (part-end s at)
 
   go-on : walk words done s ≡ more at (andThen t (walk (drop (suc i) words) done) (drop at s))
   go-on =

@@ -7,4 +7,7 @@ pub mod Join
 pub mod NoIndent
 pub mod Plain
 pub mod Reserved
+pub mod UcWords
+pub mod UcChoices
+pub mod UcReserved
 pub mod Entries

@@ -10,11 +10,7 @@ use Rattle.recognisers.specs.declared.Taken.the-variants.{Bytes, Fails}
 use Rattle.recognisers.specs.Text.{byte, bytes}
 use Rattle.recognisers.specs.Taking.{Part, more, or, done, one, capital, blanks, endOfWord}
 
--- one byte of a phrase: a space stands for any whitespace, a letter for itself in either case
-unfoldable pub wordStep : ℕ → Part
-wordStep p s = cond (eqb p (byte " ")) (blanks done s) (one (λ b. eqb (capital b) p) done s)
-
--- the words of a phrase, which has one space where the text may have any whitespace
+-- the words of a phrase: a letter in either case, and any whitespace where the phrase has a space
 unfoldable pub walk : List ℕ → Part → Part
 walk [] then s = then s
 walk (p ∷ words) then s = cond (eqb p (byte " ")) (blanks (walk words then) s) (one (λ b. eqb (capital b) p) (walk words then) s)

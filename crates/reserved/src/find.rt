@@ -6,17 +6,18 @@ use recognisers::end_of_word;
 use recognisers::n_more;
 use unicode::Class;
 ghost use mathlib.Core.Path.{_≡_};
+ghost use mathlib.Core.List.{[], _∷_};
 ghost use mathlib.Core.Bool.{true};
 ghost use lib.Dec.{eqb};
 ghost use Prim.Native.Nat.{_≤_};
 ghost use lib.ListN.{length, drop};
 ghost use Rattle.recognisers.specs.Taking.{done};
-ghost use Rattle.reserved.specs.Phrases.{walk, wordStep};
+ghost use Rattle.reserved.specs.Phrases.{walk};
 ghost use Rattle.reserved.specs.Entries.{ifExists, ending, entryEnd, tableFind};
 
 // The byte of a phrase at the start of the rest: any whitespace for a space, else a letter in either case.
 fn word_step(rest: &[u8], w: u8) -> Taken
-    ensures { λ r. ⌜ r ≡ wordStep w (now (rest .entry)) ⌝ }
+    ensures { λ r. ⌜ r ≡ walk (w ∷ []) done (now (rest .entry)) ⌝ }
 {
     if w == b' ' {
         let n = unicode::run_of(rest, Class::Whitespace);

@@ -36,7 +36,7 @@ use Rattle.reserved.specs.Join.{joinPhrases}
 use Rattle.reserved.specs.Newline.{newlinePhrases}
 use Rattle.reserved.specs.NewlineAfter.{newlineAfterPhrases}
 use Rattle.reserved.specs.NoIndent.{noIndentPhrases}
-use Rattle.reserved.specs.Phrases.{wordStep, walk, optional, phraseEnd, firstPhrase, each}
+use Rattle.reserved.specs.Phrases.{walk, optional, phraseEnd, firstPhrase, each}
 use Rattle.reserved.specs.Plain.{plainTwoPhrases, plainA, plainB, plainC, plainD, plainE, plainF, plainG, plainH, plainI, plainK, plainL, plainM, plainN, plainO, plainP, plainQ, plainR, plainS, plainT, plainU, plainV, plainW, plainY, plainOnePhrases}
 use Rattle.reserved.specs.Reserved.{same, topLevelKind, aliasLength, getTopLevelReservedToken, getNewlineAfterReservedToken, getNewlineReservedToken, getJoinToken, getTopLevelReservedTokenNoIndent, getPlainReservedToken, mayBeReserved, getReservedWordToken}
 use Rattle.reserved.specs.TopLevel.{creatable, alterableOrDroppable, eachDropped, topLevelPhrases}
@@ -82,5 +82,5 @@ searches =
     ∷ []
 
 pub worked : map (λ w. shown (tokens (w .0) (w .1))) searches ≡ map (λ w. w .2) searches
-unfolding alphabetic isContinuation continuations continued firstBits withBits characterLength codePoint character isWhitespace isAlphabetic isNumeric isMark isPunctuationConnector isAlphanumeric isWordCharacter isPlaceholderNameCharacter connector mark numeric within inRanges ordered endsOf inEnds ascending inClass run whiteSpace tillLineEnding throughBlockEnd getCommentToken decimalNumber signedDigits exponent scientificNotation unsigned getNumberToken getOpenParenToken getCloseParenToken numberFrom indexedKey indexedPart getIndexedPlaceholderToken placeholderName identPart getIdentNamedPlaceholderToken throughBrace bracedText bracedPart getBracedNamedPlaceholderToken hasEscape stringKey stringNamedPart getStringNamedPlaceholderToken getPlaceholderToken takeTillEscaping closedBy hexPart quotedPart stringPart getStringToken placeholderQuotedPart placeholderStringPart one spelled isSpelled typed capital blanks endOfWord count digit1 digit0 contains startsAmong startsWith getTypeSpecifierToken getWhitespaceToken isOperator getOperatorToken getWordToken getAnyOtherChar joinPhrases newlinePhrases newlineAfterPhrases noIndentPhrases wordStep walk optional phraseEnd firstPhrase each plainTwoPhrases plainA plainB plainC plainD plainE plainF plainG plainH plainI plainK plainL plainM plainN plainO plainP plainQ plainR plainS plainT plainU plainV plainW plainY plainOnePhrases same topLevelKind aliasLength getTopLevelReservedToken getNewlineAfterReservedToken getNewlineReservedToken getJoinToken getTopLevelReservedTokenNoIndent getPlainReservedToken mayBeReserved getReservedWordToken creatable alterableOrDroppable eachDropped topLevelPhrases takesTypeSpecifier topLevelOf afterBetween lastTopLevel remember remembered fromWord fromPlaceholder fromOperator fromReserved fromNumber fromCloseParen fromOpenParen fromString fromTypeSpecifier getNextToken nextPiece givenOut stepAt tokensFrom tokens shown settings generic plain searches
+unfolding alphabetic isContinuation continuations continued firstBits withBits characterLength codePoint character isWhitespace isAlphabetic isNumeric isMark isPunctuationConnector isAlphanumeric isWordCharacter isPlaceholderNameCharacter connector mark numeric within inRanges ordered endsOf inEnds ascending inClass run whiteSpace tillLineEnding throughBlockEnd getCommentToken decimalNumber signedDigits exponent scientificNotation unsigned getNumberToken getOpenParenToken getCloseParenToken numberFrom indexedKey indexedPart getIndexedPlaceholderToken placeholderName identPart getIdentNamedPlaceholderToken throughBrace bracedText bracedPart getBracedNamedPlaceholderToken hasEscape stringKey stringNamedPart getStringNamedPlaceholderToken getPlaceholderToken takeTillEscaping closedBy hexPart quotedPart stringPart getStringToken placeholderQuotedPart placeholderStringPart one spelled isSpelled typed capital blanks endOfWord count digit1 digit0 contains startsAmong startsWith getTypeSpecifierToken getWhitespaceToken isOperator getOperatorToken getWordToken getAnyOtherChar joinPhrases newlinePhrases newlineAfterPhrases noIndentPhrases walk optional phraseEnd firstPhrase each plainTwoPhrases plainA plainB plainC plainD plainE plainF plainG plainH plainI plainK plainL plainM plainN plainO plainP plainQ plainR plainS plainT plainU plainV plainW plainY plainOnePhrases same topLevelKind aliasLength getTopLevelReservedToken getNewlineAfterReservedToken getNewlineReservedToken getJoinToken getTopLevelReservedTokenNoIndent getPlainReservedToken mayBeReserved getReservedWordToken creatable alterableOrDroppable eachDropped topLevelPhrases takesTypeSpecifier topLevelOf afterBetween lastTopLevel remember remembered fromWord fromPlaceholder fromOperator fromReserved fromNumber fromCloseParen fromOpenParen fromString fromTypeSpecifier getNextToken nextPiece givenOut stepAt tokensFrom tokens shown settings generic plain searches
 worked = refl
