@@ -12,6 +12,7 @@ mod table;
 mod tokenizing;
 
 pub use records::key_words;
+pub use remembering::is_kind;
 pub use remembering::kind_number;
 pub use stepping::next_step;
 pub use table::at_start;
