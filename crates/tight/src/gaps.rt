@@ -39,9 +39,10 @@ pub fn gap_length(gap: Gap) -> usize
 pub fn before_first() -> Spacing
     ensures { λ r. ⌜ r ≡ outside ⌝ }
 {
+    let nothing = Gap::Nothing;
     Spacing {
-        here: Gap::Nothing,
-        lead: Gap::Nothing,
+        here: nothing,
+        lead: nothing,
     }
 }
 
