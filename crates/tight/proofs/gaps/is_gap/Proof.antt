@@ -8,7 +8,7 @@ is-kind-requires c κs = search needs
 
 returns : tie.Need-returns
 unfolding isGap
-returns c = cc
+returns c = c .is-kind .ensures
 
 pub is-gap-spec : {M : Type 1} → statement M
 is-gap-spec = tie.close (tie.spec is-kind-requires returns)
