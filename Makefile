@@ -44,7 +44,7 @@ $(build)/bench_tokenize: bench/tokenize.rs bench/timing.rs target/staticlib/libv
 	@mkdir -p $(build)
 	$(rust) -o $@ $< -L target/staticlib -l static=ventpeeler
 
-$(build)/replay: tests/tokenize/replay.rs target/staticlib/libventpeeler.a
+$(build)/replay_%: tests/%/replay.rs tests/replaying.rs target/staticlib/libventpeeler.a
 	@mkdir -p $(build)
 	$(rust) -o $@ $< -L target/staticlib -l static=ventpeeler
 

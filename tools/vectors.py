@@ -1011,23 +1011,29 @@ def random_texts(vectors):
         vectors.case(statement)
 
 
+GROUPS_OF_CASES = (
+    worked,
+    refusals,
+    phrases,
+    memory,
+    if_exists_and_case,
+    strings,
+    placeholders,
+    numbers,
+    comments,
+    operators,
+    type_specifiers,
+    characters,
+    short_texts,
+    whole_searches,
+    random_texts,
+)
+
+
 def main():
     vectors = Vectors()
-    worked(vectors)
-    refusals(vectors)
-    phrases(vectors)
-    memory(vectors)
-    if_exists_and_case(vectors)
-    strings(vectors)
-    placeholders(vectors)
-    numbers(vectors)
-    comments(vectors)
-    operators(vectors)
-    type_specifiers(vectors)
-    characters(vectors)
-    short_texts(vectors)
-    whole_searches(vectors)
-    random_texts(vectors)
+    for group in GROUPS_OF_CASES:
+        group(vectors)
     sys.stdout.buffer.write(("\n".join(vectors.lines) + "\n").encode("utf-8"))
 
 

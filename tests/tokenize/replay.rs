@@ -1,5 +1,10 @@
 // Replays tests/vectors/tokenize.txt through libventpeeler.a, prints each failure and a count. The file says how its
 // answers were made and what its lines mean.
+#[path = "../replaying.rs"]
+mod replaying;
+
+use replaying::{marked, numbers, repeated, unescape, unpacked, Count, GUARD};
+
 extern "C" {
     fn ventpeeler_tokenize(
         statement: *const u8, statement_len: usize, dialect: u64, joins: u64, named: u64,
@@ -8,37 +13,6 @@ extern "C" {
 }
 
 const RECORD: usize = 28;
-const GUARD: u8 = 0xA5;
-
-fn unescape(text: &str) -> Vec<u8> {
-    let b = text.as_bytes();
-    let mut out = Vec::new();
-    let mut i = 0;
-    while i < b.len() {
-        if b[i] != b'\\' {
-            out.push(b[i]);
-            i += 1;
-            continue;
-        }
-        match b[i + 1] {
-            b'n' => out.push(b'\n'),
-            b'r' => out.push(b'\r'),
-            b't' => out.push(b'\t'),
-            b'\\' => out.push(b'\\'),
-            b'x' => {
-                out.push(u8::from_str_radix(&text[i + 2..i + 4], 16).unwrap());
-                i += 2;
-            }
-            other => panic!("no such escape: {}", other as char),
-        }
-        i += 2;
-    }
-    out
-}
-
-fn numbers(rest: &str) -> Vec<u64> {
-    rest.split(' ').map(|n| n.parse().unwrap()).collect()
-}
 
 // One call, and what it must answer and write.
 struct Call {
@@ -52,22 +26,12 @@ struct Call {
 struct Replay {
     statement: Vec<u8>,
     table: Vec<u8>,
-    passed: usize,
-    failed: usize,
+    count: Count,
 }
 
 impl Replay {
     fn word(&self, at: usize) -> u64 {
         u32::from_le_bytes(self.table[at..at + 4].try_into().unwrap()) as u64
-    }
-
-    fn check(&mut self, call: &Call, holds: bool, what: String) {
-        if holds {
-            self.passed += 1;
-        } else {
-            self.failed += 1;
-            println!("line {}: {}", call.line, what);
-        }
     }
 
     fn run(&mut self, call: Call) {
@@ -76,24 +40,23 @@ impl Replay {
             self.table.resize(lent + RECORD, GUARD);
         }
         let s = &call.settings;
-        let got = unsafe {
+        let [number, detail] = unpacked(unsafe {
             ventpeeler_tokenize(
                 self.statement.as_ptr(), self.statement.len(), s[0], s[1], s[2], self.table.as_mut_ptr(), lent,
             )
-        };
-        let (number, detail) = (got >> 56, got & ((1 << 56) - 1));
+        });
         let answered = [number, detail] == call.answer[..];
-        self.check(&call, answered, format!("answered {} {}, not {:?}", number, detail, call.answer));
+        self.count.check(call.line, answered, || format!("answered {} {}, not {:?}", number, detail, call.answer));
         for (i, record) in call.records.iter().enumerate() {
             let fields: Vec<u64> = (0..7).map(|k| self.word(i * RECORD + k * 4)).collect();
-            self.check(&call, &fields == record, format!("record {} is {:?}, not {:?}", i, fields, record));
+            self.count.check(call.line, &fields == record, || format!("record {} is {:?}, not {:?}", i, fields, record));
         }
         // a refusal writes nothing; else what lies past the written records is kept
         let end = if number == 0 { detail as usize * RECORD } else { 0 };
         let looked = if call.untouched { self.table.len() } else { (end + 64 * RECORD).min(self.table.len()) };
         let kept = self.table[end..looked].iter().all(|b| *b == GUARD);
         if call.untouched || !kept {
-            self.check(&call, kept, "a byte past the records was written".to_string());
+            self.count.check(call.line, kept, || "a byte past the records was written".to_string());
         }
         if kept {
             self.table[..end].fill(GUARD);
@@ -104,14 +67,12 @@ impl Replay {
 }
 
 fn main() {
-    let path = std::env::args().nth(1).unwrap_or("tests/vectors/tokenize.txt".to_string());
-    let file = std::fs::read_to_string(&path).unwrap();
-    let mut replay = Replay { statement: Vec::new(), table: Vec::new(), passed: 0, failed: 0 };
+    let file = replaying::vectors("tests/vectors/tokenize.txt");
+    let mut replay = Replay { statement: Vec::new(), table: Vec::new(), count: Count::new() };
     let mut settings = vec![0; 4];
     let mut pending: Option<Call> = None;
     for (i, line) in file.lines().enumerate() {
-        let (mark, rest) = line.split_at(line.len().min(2));
-        let mark = mark.trim();
+        let (mark, rest) = marked(line);
         if mark != "r" && mark != "u" {
             if let Some(call) = pending.take() {
                 replay.run(call);
@@ -119,10 +80,7 @@ fn main() {
         }
         match mark {
             "s" => replay.statement = unescape(rest),
-            "f" => {
-                let n = numbers(rest);
-                replay.statement = vec![n[1] as u8; n[0] as usize];
-            }
+            "f" => replay.statement = repeated(rest),
             "o" => settings = numbers(rest),
             "=" => {
                 pending = Some(Call {
@@ -138,10 +96,5 @@ fn main() {
     if let Some(call) = pending.take() {
         replay.run(call);
     }
-    println!("{} checks hold, {} do not", replay.passed, replay.failed);
-    if replay.passed == 0 || replay.failed > 0 {
-        println!("0 passed, 1 failed");
-        std::process::exit(1);
-    }
-    println!("1 passed, 0 failed");
+    replay.count.tell();
 }

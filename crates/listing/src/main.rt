@@ -11,22 +11,10 @@ use tokenizer::Token;
 ghost use mathlib.Core.Path.{_≡_};
 ghost use lib.ListN.{length};
 
-fn print_refused(number: u64) {
-    io::write_all(STDOUT_FILENO, b"refused ");
-    io::print_decimal(STDOUT_FILENO, number);
-    io::write_all(STDOUT_FILENO, b"\n");
-}
-
 fn print_refusal(answer: Answer) {
-    match answer {
-        Answer::Done(_) => print_refused(0),
-        Answer::Overlong(_) => print_refused(1),
-        Answer::NotUtf8(_) => print_refused(2),
-        Answer::Setting => print_refused(3),
-        Answer::TableFull(_) => print_refused(4),
-        Answer::Sheet => print_refused(5),
-        Answer::OutputFull(_) => print_refused(6),
-    }
+    io::write_all(STDOUT_FILENO, b"refused ");
+    io::print_decimal(STDOUT_FILENO, tokenizer::answer_number(answer));
+    io::write_all(STDOUT_FILENO, b"\n");
 }
 
 fn print_next(n: u64) {

@@ -32,7 +32,7 @@ unfolding le32
 word-put table i word a b c d e f g h = rw (add-one, add-two, add-three, e, f, g, h)
 
 -- some bytes, and more behind them
-both-put : (vs ws table : List ℕ) (i : ℕ) → sets (sets table i vs) (i + length vs) ws ≡ sets table i (vs ++ ws)
+pub both-put : (vs ws table : List ℕ) (i : ℕ) → sets (sets table i vs) (i + length vs) ws ≡ sets table i (vs ++ ws)
 both-put [] ws table i = rw add-zero
 both-put (v ∷ vs) ws table i = rw (add-suc, ← suc-add) (both-put vs ws (set table i v) (suc i))
 
@@ -111,7 +111,7 @@ records-more [] t = append-nil (recordOf t)
 records-more (u ∷ ts) t = rw (records-more ts t) (sym (append-assoc (recordOf u) (recordsOf ts) (recordOf t)))
 
 -- bytes put where the written part ends
-append-put : (before vs table : List ℕ) (i : ℕ) → length before ≡ i → i + length vs ≤ length table → sets (before ++ drop i table) i vs ≡ (before ++ vs) ++ drop (i + length vs) table
+pub append-put : (before vs table : List ℕ) (i : ℕ) → length before ≡ i → i + length vs ≤ length table → sets (before ++ drop i table) i vs ≡ (before ++ vs) ++ drop (i + length vs) table
 append-put before vs table i e h =
     let n : length (before ++ drop i table) ≡ length table = rw (length-append, length-drop, e) (omega arith) in
     sets-eq vs (before ++ drop i table) i (omega arith)

@@ -67,6 +67,8 @@ module _ (settings : Settings) where
     pub record Moved (c : Cursor) (t : Token) (c′ : Cursor) : Type 0 where
       pub on : c .at < c′ .at
       pub inside : c′ .at ≤ length s
+      pub from : t .start ≡ c .at
+      pub past : c .at + t .len ≡ c′ .at
       pub list : left c ≡ t ∷ left c′
 
     pub moved : (c : Cursor) (p : Piece) → nextPiece settings (c .memory) (drop (c .at) s) ≡ R.Token p → c .at < length s
@@ -78,6 +80,8 @@ module _ (settings : Settings) where
         record {
           on = omega arith;
           inside = omega (arith, length-drop (c .at) s);
+          from = refl;
+          past = refl;
           list = rw (← drop-drop (p .len) (c .at) s) (reading (c .memory) (c .at) (drop (c .at) s) p e f);
         }
       where

@@ -4,6 +4,7 @@ use recognisers::Key;
 use recognisers::TokenKind;
 use reserved::TopLevel;
 
+mod answers;
 mod choice;
 mod records;
 mod remembering;
@@ -11,7 +12,9 @@ mod stepping;
 mod table;
 mod tokenizing;
 
+pub use answers::answer_number;
 pub use records::key_words;
+pub use remembering::is_kind;
 pub use remembering::kind_number;
 pub use stepping::next_step;
 pub use table::at_start;

@@ -1,25 +1,14 @@
 // The boundary for C.
+use tight::tighten;
 use tokenizer::Answer;
+use tokenizer::answer_number;
 use tokenizer::tokenize;
 ghost use mathlib.Core.Path.{_≡_};
 ghost use Prim.Native.Nat.{min, _≤_};
 ghost use lib.ListN.{length};
-ghost use Rattle.tokenizer.specs.Answers.{answerNumber, answerDetail, tokenizeAnswer, tokenizeRecords};
+ghost use Rattle.tokenizer.specs.Answers.{answerDetail, tokenizeAnswer, tokenizeRecords};
+ghost use Rattle.tight.specs.Answers.{tightenAnswer, tightenOutput};
 ghost use Rattle.ventpeeler.specs.Packed.{packed};
-
-fn answer_number(answer: Answer) -> u64
-    ensures { λ r. ⌜ r ≡ answerNumber answer ⌝ }
-{
-    match answer {
-        Answer::Done(_) => 0,
-        Answer::Overlong(_) => 1,
-        Answer::NotUtf8(_) => 2,
-        Answer::Setting => 3,
-        Answer::TableFull(_) => 4,
-        Answer::Sheet => 5,
-        Answer::OutputFull(_) => 6,
-    }
-}
 
 fn answer_detail(answer: Answer) -> u64
     ensures { λ r. ⌜ r ≡ answerDetail answer ⌝ }
@@ -65,5 +54,20 @@ pub extern "C" fn ventpeeler_tokenize(
     ensures { λ _. ⌜ now (records .exit) ≡ tokenizeRecords (now (statement .entry)) dialect joins named (now (records .entry)) ⌝ }
 {
     let answer = tokenize(statement, dialect, joins, named, records);
+    pack(answer)
+}
+
+#[no_mangle]
+pub extern "C" fn ventpeeler_tighten(
+    statement: &[u8],
+    dialect: u64,
+    joins: u64,
+    named: u64,
+    output: &mut [u8],
+) -> u64
+    ensures { λ r. ⌜ r ≡ packed (tightenAnswer (now (statement .entry)) dialect joins named (length (now (output .entry)))) ⌝ }
+    ensures { λ _. ⌜ now (output .exit) ≡ tightenOutput (now (statement .entry)) dialect joins named (now (output .entry)) ⌝ }
+{
+    let answer = tighten(statement, dialect, joins, named, output);
     pack(answer)
 }

@@ -1,0 +1,116 @@
+-- A token's part: its length, its place in the tight text, and its bytes put into an output.
+-- Assumes nothing.
+use Prim.Native.Nat.{ℕ, _+_, _-_, _^_, _≤_, _<_}
+use native.Mathlib.Omega.{arith}
+use mathlib.Core.Path.{_≡_, refl, sym, _∙_}
+use mathlib.Core.Bool.{Bool, true, false}
+use mathlib.Core.List.{List, _∷_, _++_, append-assoc}
+use lib.ListN.{length, take, drop, set, length-append, length-drop}
+use lib.Seq.{sets, length-sets, length-take-le}
+use mir.Syntax.{w64}
+use mir.Val.{Fits}
+use Rattle.tokenizer.specs.declared.Token.{Token}
+use Rattle.tokenizer.specs.Values.{value}
+use Rattle.tokenizer.proofs.Storing.{both-put}
+use Rattle.tight.specs.declared.Gap.{Gap}
+use Rattle.tight.specs.declared.Gap.the-variants.{Nothing, LineFeed, Space}
+use Rattle.tight.specs.declared.Spacing.{Spacing}
+use Rattle.tight.specs.TightText.{isGap, gapAfter, gapBytes, tightFrom}
+use Rattle.tight.specs.Parts.{part, partLength, spacingPast}
+
+pub gap-short : (gap : Gap) → length (gapBytes gap) ≤ 1
+gap-short Nothing = omega arith
+gap-short LineFeed = omega arith
+gap-short Space = omega arith
+
+-- ---- the text from a token on: its part, and the text past it
+
+module _ (s : List ℕ) (spacing : Spacing) (t : Token) where
+  pub part-first : (ts : List Token)
+      → tightFrom s (spacing .here) (spacing .lead) (t ∷ ts)
+      ≡ part s (spacing .lead) t ++ tightFrom s (spacingPast spacing t .here) (spacingPast spacing t .lead) ts
+  unfolding tightFrom part spacingPast
+  part-first ts = go (isGap t) refl
+    where
+      go : (b : Bool) → isGap t ≡ b
+          → tightFrom s (spacing .here) (spacing .lead) (t ∷ ts)
+          ≡ part s (spacing .lead) t ++ tightFrom s (spacingPast spacing t .here) (spacingPast spacing t .lead) ts
+      go true e = rw (tightFrom, e)
+      go false e = rw (tightFrom, e) (sym (append-assoc (gapBytes (spacing .lead)) (value s t) (tightFrom s (gapAfter (t .kind)) Nothing ts)))
+
+module _ (s : List ℕ) (lead : Gap) (t : Token) where
+  value-length : t .start + t .len ≤ length s → length (value s t) ≡ t .len
+  value-length h = length-take-le (t .len) (drop (t .start) s) (rw length-drop (omega arith))
+
+  pub part-is-long : t .start + t .len ≤ length s → length (part s lead t) ≡ partLength lead t
+  unfolding part partLength
+  part-is-long h = go (isGap t) refl
+    where
+      go : (b : Bool) → isGap t ≡ b → length (part s lead t) ≡ partLength lead t
+      go true e = rw e
+      go false e = rw (e, length-append, value-length h)
+
+-- the lead past a token is no longer than what is read of it
+pub past-reach : (spacing : Spacing) (t : Token) (n i j : ℕ) → n + length (gapBytes (spacing .lead)) ≤ i → i + t .len ≡ j → i < j
+    → n + partLength (spacing .lead) t + length (gapBytes (spacingPast spacing t .lead)) ≤ j
+unfolding partLength spacingPast
+past-reach spacing t n i j h e k = go (isGap t) refl
+  where
+    go : (b : Bool) → isGap t ≡ b → n + partLength (spacing .lead) t + length (gapBytes (spacingPast spacing t .lead)) ≤ j
+    go true f = rw f (omega (arith, gap-short (spacing .here)))
+    go false f = rw f (omega arith)
+
+-- ---- a gap and a value, put
+
+module _ (gap : Gap) (output : List ℕ) (at : ℕ) (h : at + length (gapBytes gap) ≤ length output) where
+  pub line-room : gap ≡ LineFeed → at < length output
+  line-room e = let k : at + length (gapBytes LineFeed) ≤ length output = rw e at h in omega arith
+
+  pub space-room : gap ≡ Space → at < length output
+  space-room e = let k : at + length (gapBytes Space) ≤ length output = rw e at h in omega arith
+
+module _ (gap : Gap) (output : List ℕ) (at : ℕ) where
+  pub nothing-put : gap ≡ Nothing → output ≡ sets output at (gapBytes gap)
+  nothing-put e = rw e
+
+  pub line-put : gap ≡ LineFeed → set output at 10 ≡ sets output at (gapBytes gap)
+  line-put e = rw e
+
+  pub space-put : gap ≡ Space → set output at 32 ≡ sets output at (gapBytes gap)
+  space-put e = rw e
+
+module _ (start len : ℕ) where
+  back : start + len - start ≡ len
+  back = omega arith
+
+  module _ (s output : List ℕ) (at : ℕ) where
+    pub value-room : start + len ≤ length s → at + len ≤ length output → at + length (take (start + len - start) (drop start s)) ≤ length output
+    value-room h k = rw (back, length-take-le len (drop start s) (rw length-drop (omega arith))) k
+
+    pub value-put : (after : List ℕ) → after ≡ sets output at (take (start + len - start) (drop start s)) → after ≡ sets output at (take len (drop start s))
+    value-put after e = e ∙ rw back
+
+module _ (s output : List ℕ) (at : ℕ) (lead : Gap) (t : Token) (r : Bool) (e : r ≡ isGap t) where
+  pub no-part : r ≡ true → output ≡ sets output at (part s lead t)
+  unfolding part
+  no-part f = rw (← e, f)
+
+  module _ (f : r ≡ false) (h : at + partLength lead t ≤ length output) where
+    room : at + (length (gapBytes lead) + t .len) ≤ length output
+    unfolding partLength
+    room = rw (← e, f) at h
+
+    pub gap-room : at + length (gapBytes lead) ≤ length output
+    gap-room = omega (arith, room)
+
+    module _ (n : ℕ) (g : n ≡ length (gapBytes lead)) where
+      pub behind-fits : length output < 2 ^ 64 → Fits w64 (at + n)
+      behind-fits k = record { fits = omega (arith, room) }
+
+      pub behind-room : (between : List ℕ) → between ≡ sets output at (gapBytes lead) → at + n + t .len ≤ length between
+      behind-room between k = rw (k, length-sets) (omega (arith, room))
+
+  module _ (f : r ≡ false) (n : ℕ) (g : n ≡ length (gapBytes lead)) (between after : List ℕ) where
+    pub part-put : between ≡ sets output at (gapBytes lead) → after ≡ sets between (at + n) (value s t) → after ≡ sets output at (part s lead t)
+    unfolding part
+    part-put k l = l ∙ rw (k, ← e, f, g) (both-put (gapBytes lead) (value s t) output at)

@@ -1,0 +1,49 @@
+use borrow.Author.Needs.{needs}
+use Rattle.tight.proofs.Parting.{line-room, space-room, nothing-put, line-put, space-put}
+use Rattle.tight.proofs.parts.put_gap.Statement.{statement}
+use Rattle.tight.proofs.parts.put_gap.Tie as tie
+
+enum-told : tie.Need-enum-told
+enum-told c = search needs
+
+enum-told-2 : tie.Need-enum-told-2
+enum-told-2 c = search needs
+
+slice-write-output : tie.Need-slice-write-output
+slice-write-output c = search line-room
+
+enum-told-3 : tie.Need-enum-told-3
+enum-told-3 c = search needs
+
+slice-write-output-2 : tie.Need-slice-write-output-2
+slice-write-output-2 c = search space-room
+
+returns : tie.Need-returns
+returns c = search nothing-put
+
+same-length : tie.Need-same-length
+same-length c = search needs
+
+returns-2 : tie.Need-returns-2
+returns-2 c = search line-put
+
+same-length-2 : tie.Need-same-length-2
+same-length-2 c = search needs
+
+returns-3 : tie.Need-returns-3
+returns-3 c = search space-put
+
+pub put-gap-spec : {M : Type 1} → statement M
+put-gap-spec =
+    tie.close
+    (tie.spec
+    enum-told
+    enum-told-2
+    slice-write-output
+    enum-told-3
+    slice-write-output-2
+    returns
+    same-length
+    returns-2
+    same-length-2
+    returns-3)

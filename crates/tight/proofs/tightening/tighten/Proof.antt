@@ -1,0 +1,37 @@
+use borrow.Author.Needs.{needs}
+use Rattle.tight.proofs.Answering.{refused-answer, refused-output, accepted-answer, accepted-output}
+use Rattle.tight.proofs.tightening.tighten.Statement.{statement}
+use Rattle.tight.proofs.tightening.tighten.Tie as tie
+
+check-requires : tie.Need-check-requires
+check-requires c κs = search needs
+
+enum-known-settings : tie.Need-enum-known-settings
+enum-known-settings c = search needs
+
+fill-output-requires : tie.Need-fill-output-requires
+fill-output-requires c κs = search needs
+
+enum-known-answer : tie.Need-enum-known-answer
+enum-known-answer c = search needs
+
+same-length : tie.Need-same-length
+same-length c = search needs
+
+returns : tie.Need-returns
+returns c = search (accepted-answer, accepted-output)
+
+returns-2 : tie.Need-returns-2
+returns-2 c = search (refused-answer, refused-output)
+
+pub tighten-spec : {M : Type 1} → statement M
+tighten-spec =
+    tie.close
+    (tie.spec
+    check-requires
+    enum-known-settings
+    fill-output-requires
+    enum-known-answer
+    same-length
+    returns
+    returns-2)

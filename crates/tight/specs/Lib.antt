@@ -1,0 +1,4 @@
+-- The tight text of a statement, and what `tighten` tells and writes.
+pub mod TightText
+pub mod Parts
+pub mod Answers

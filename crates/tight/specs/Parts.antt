@@ -1,0 +1,26 @@
+-- The tight text one token after the other: each token's part, and what a gap becomes past it.
+use Prim.Native.Nat.{ℕ, _+_}
+use mathlib.Core.Bool.{cond}
+use mathlib.Core.List.{List, [], _++_}
+use lib.ListN.{length}
+use Rattle.tokenizer.specs.declared.Token.{Token}
+use Rattle.tokenizer.specs.Values.{value}
+use Rattle.tight.specs.declared.Gap.{Gap}
+use Rattle.tight.specs.declared.Gap.the-variants.{Nothing}
+use Rattle.tight.specs.declared.Spacing.{Spacing}
+use Rattle.tight.specs.TightText.{isGap, gapAfter, gapBytes}
+
+-- a gap has no part of its own
+unfoldable pub part : List ℕ → Gap → Token → List ℕ
+part s lead t = cond (isGap t) [] (gapBytes lead ++ value s t)
+
+unfoldable pub partLength : Gap → Token → ℕ
+partLength lead t = cond (isGap t) 0 (length (gapBytes lead) + t .len)
+
+-- before the first token
+abbrev pub outside : Spacing
+outside = record { here = Nothing; lead = Nothing }
+
+unfoldable pub spacingPast : Spacing → Token → Spacing
+spacingPast spacing t =
+    cond (isGap t) (record { here = spacing .here; lead = spacing .here }) (record { here = gapAfter (t .kind); lead = Nothing })

@@ -1,0 +1,58 @@
+// The tight text of a whole statement: its length, and the text itself.
+use crate::gaps::before_first;
+use crate::gaps::spacing_past;
+use crate::parts::part_length;
+use crate::parts::put_part;
+use tokenizer::Settings;
+use tokenizer::Step;
+use tokenizer::at_start;
+use tokenizer::next_step;
+ghost use mathlib.Core.Path.{_≡_};
+ghost use mathlib.Core.List.{_++_};
+ghost use Prim.Native.Nat.{_≤_};
+ghost use lib.ListN.{length, drop};
+ghost use Rattle.tight.specs.TightText.{tight};
+
+pub fn tight_length(statement: &[u8], settings: Settings) -> usize
+    ensures { λ r. ⌜ r ≡ length (tight settings (now (statement .entry))) ⌝ }
+{
+    let mut count = 0;
+    let mut spacing = before_first();
+    let mut cursor = at_start();
+    loop {
+        match next_step(statement, settings, cursor) {
+            Step::Token(token, next) => {
+                let lead = spacing.lead;
+                count += part_length(lead, token);
+                spacing = spacing_past(spacing, token);
+                cursor = next;
+            }
+            Step::Done => {
+                return count;
+            }
+        }
+    }
+}
+
+pub fn write_tight(statement: &[u8], settings: Settings, output: &mut [u8])
+    requires { ⌜ length (tight settings (now statement)) ≤ length (now output) ⌝ }
+    ensures { λ _. ⌜ now (output .exit) ≡ tight settings (now (statement .entry)) ++ drop (length (tight settings (now (statement .entry)))) (now (output .entry)) ⌝ }
+{
+    let mut at = 0;
+    let mut spacing = before_first();
+    let mut cursor = at_start();
+    loop {
+        match next_step(statement, settings, cursor) {
+            Step::Token(token, next) => {
+                let lead = spacing.lead;
+                put_part(statement, lead, token, output, at);
+                at += part_length(lead, token);
+                spacing = spacing_past(spacing, token);
+                cursor = next;
+            }
+            Step::Done => {
+                return;
+            }
+        }
+    }
+}

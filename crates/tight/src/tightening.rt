@@ -1,0 +1,33 @@
+// `tighten`: the tight text of a statement, into an output that the caller lends.
+use crate::text::tight_length;
+use crate::text::write_tight;
+use tokenizer::Answer;
+use tokenizer::Checked;
+use tokenizer::Settings;
+use tokenizer::check;
+ghost use mathlib.Core.Path.{_≡_};
+ghost use lib.ListN.{length};
+ghost use Rattle.tight.specs.TightText.{tight};
+ghost use Rattle.tight.specs.Answers.{textAnswer, textAfter, tightenAnswer, tightenOutput};
+
+fn fill_output(statement: &[u8], settings: Settings, output: &mut [u8]) -> Answer
+    ensures { λ r. ⌜ r ≡ textAnswer (tight settings (now (statement .entry))) (length (now (output .entry))) ⌝ }
+    ensures { λ _. ⌜ now (output .exit) ≡ textAfter (tight settings (now (statement .entry))) (now (output .entry)) ⌝ }
+{
+    let needed = tight_length(statement, settings);
+    if output.len() < needed {
+        return Answer::OutputFull(needed as u64);
+    }
+    write_tight(statement, settings, output);
+    Answer::Done(needed as u64)
+}
+
+pub fn tighten(statement: &[u8], dialect: u64, joins: u64, named: u64, output: &mut [u8]) -> Answer
+    ensures { λ r. ⌜ r ≡ tightenAnswer (now (statement .entry)) dialect joins named (length (now (output .entry))) ⌝ }
+    ensures { λ _. ⌜ now (output .exit) ≡ tightenOutput (now (statement .entry)) dialect joins named (now (output .entry)) ⌝ }
+{
+    match check(statement, dialect, joins, named) {
+        Checked::Accepted(settings) => fill_output(statement, settings, output),
+        Checked::Refused(answer) => answer,
+    }
+}

@@ -1,0 +1,234 @@
+#!/usr/bin/env python3
+"""Prints tests/vectors/tighten.txt: searches, settings, and what tighten must
+answer and write.
+
+    python3 tools/tight_vectors.py > tests/vectors/tighten.txt
+
+The tokens come from tools/reading.py, and the tight text from document 01's
+sentence on them (`tight`). The searches are those of tools/vectors.py and the
+ones below. What document 01 says of a search by itself is written out here,
+and this program stops where it comes to another text (`worked`).
+"""
+
+import sys
+from pathlib import Path
+
+sys.dont_write_bytecode = True
+sys.path.insert(0, str(Path(__file__).resolve().parent))
+import reading  # noqa: E402
+import vectors  # noqa: E402
+
+MANY = 70000
+LONGEST = 200
+
+HEAD = """\
+# Searches, settings, tighten's answers and the tight texts.
+#
+# The expected texts are made from the tokens of a reading of src/tokenizer.rs in
+# Python (tools/reading.py) by document 01's sentence on tight text, independently
+# of the port and never from its output. The searches are those of tokenize.txt
+# shorter than 200 bytes, and more with gaps of every sort. What document 01 says of
+# a search by itself was laid beside it by hand. Printed by tools/tight_vectors.py.
+#
+# s TEXT   the statement: the rest of the line after `s `, with \\n \\r \\t \\\\
+#          and \\xHH (one byte) as escapes; every other byte stands for itself
+# f N B    the statement: N times the byte B (decimal)
+# o D J N R  dialect, joins, named, and the number of bytes lent; they stay until
+#          the next `o`
+# = N D    a check: number and detail of the call on the present statement
+# t TEXT   a check: the text that this call has written
+# g N B    the same: N times the byte B
+# Where a call has neither `t` nor `g`, it has written nothing.
+"""
+
+
+def tight(statement, records):
+    """Each token's value in order; a gap becomes one LF after a line comment,
+    else one space; outer gaps go."""
+    tokens = [(record[0], statement[record[1] : record[1] + record[2]]) for record in records]
+    while tokens and tokens[0][0] == vectors.WHITESPACE:
+        tokens = tokens[1:]
+    while tokens and tokens[-1][0] == vectors.WHITESPACE:
+        tokens = tokens[:-1]
+    text = b""
+    before = None
+    for kind, value in tokens:
+        if kind == vectors.WHITESPACE:
+            text += b"\n" if before == vectors.LINE_COMMENT else b" "
+        else:
+            text += value
+        before = kind
+    return text
+
+
+def answer(statement, dialect, joins, named, lent):
+    """Number, detail and text of the call tighten."""
+    number, detail, records = reading.answer(statement, dialect, joins, named, len(statement))
+    if number != 0:
+        return number, detail, b""
+    text = tight(statement, records)
+    if lent < len(text):
+        return 6, len(text), b""
+    return 0, len(text), text
+
+
+class Tightened(vectors.Vectors):
+    def __init__(self):
+        super().__init__()
+        self.lines = [HEAD.rstrip("\n"), "", f"o 0 0 0 {MANY}"]
+        self.options = (0, 0, 0, MANY)
+
+    def case(self, text, dialect=0, joins=0, named=0, lent=MANY, repeat=None, first=None):
+        """One call, with so many bytes lent. A long statement is one byte, repeated."""
+        statement = text if isinstance(text, bytes) else text.encode("utf-8")
+        if repeat is not None:
+            statement = statement * repeat
+        elif len(statement) >= LONGEST:
+            return
+        options = (dialect, joins, named, lent)
+        if (statement, options) in self.seen:
+            return
+        self.seen.add((statement, options))
+        if options != self.options:
+            self.lines.append("o %d %d %d %d" % options)
+            self.options = options
+        self.lines.append(written("s", "f", statement))
+        number, detail, text = answer(statement, *options)
+        self.lines.append(f"= {number} {detail}")
+        if text:
+            self.lines.append(written("t", "g", text))
+
+
+def written(plain, repeated, text):
+    """The line for a text; no line ends in a blank, so the empty one is a repetition"""
+    if len(text) >= LONGEST or not text:
+        if text.strip(text[:1]):
+            sys.exit(f"a long text that is not one byte, repeated: {text[:40]!r}")
+        return f"{repeated} {len(text)} {text[0] if text else 32}"
+    return plain + " " + vectors.escaped(text)
+
+
+# --------------------------------------------------------------------------
+# Texts worked out by hand from document 01: search, dialect, named, tight text
+
+WORKED = (
+    ("a  --x\r\n\n b ", 0, 0, "a --x\nb"),
+    ("", 0, 0, ""),
+    (" ", 0, 0, ""),
+    (" \t\r\n\u00a0\u3000\u0085 \n", 0, 0, ""),
+    # a gap after a line comment: each line end, and more behind it
+    ("--x\nb", 0, 0, "--x\nb"),
+    ("--x\r\nb", 0, 0, "--x\nb"),
+    ("--x\n\n \tb", 0, 0, "--x\nb"),
+    ("--x\r\n\r\nb", 0, 0, "--x\nb"),
+    ("#x\r\n b", 0, 0, "#x\nb"),
+    ("a #x\n#y\n#z", 0, 0, "a #x\n#y\n#z"),
+    # white space that belongs to the comment stays
+    ("--x  \nb", 0, 0, "--x  \nb"),
+    ("a--\u00a0x\t\r\n b", 0, 0, "a--\u00a0x\t\nb"),
+    # the comment is the last token
+    ("a  --x", 0, 0, "a --x"),
+    ("a  --x\n", 0, 0, "a --x"),
+    ("a  --x\r\n \r\n", 0, 0, "a --x"),
+    # block comments: their white space stays, and a gap after one is a space
+    ("a/* b\r\n  c */\n\nd", 0, 0, "a/* b\r\n  c */ d"),
+    ("/*a*/\n/*b  ", 0, 0, "/*a*/ /*b  "),
+    # outer gaps
+    ("  a", 0, 0, "a"),
+    ("a  ", 0, 0, "a"),
+    ("\n\ta\u2003b\r\n", 0, 0, "a b"),
+    ("\u3000--x\n", 0, 0, "--x"),
+    # each gap is one space, whatever it is made of
+    ("a\nb\tc\r\nd\x0be\x0cf", 0, 0, "a b c d e f"),
+    ("a\u0085b\u00a0c\u1680d\u2028e\u202ff\u205fg\u3000h", 0, 0, "a b c d e f g h"),
+    # no gap, none comes
+    ("a=b", 0, 0, "a=b"),
+    ("'a\\'", 0, 0, "'a\\'"),
+    ("$1a", 0, 0, "$1a"),
+    ("t.from", 0, 0, "t.from"),
+    ("a--x", 0, 0, "a--x"),
+    ("'a  b'", 0, 0, "'a  b'"),
+    ("[a  b]  c", 2, 0, "[a  b] c"),
+    # a phrase is one token with the white space between its words
+    ("x  ORDER \n BY  y", 0, 0, "x ORDER \n BY y"),
+    # a lone CR is white space, and after it `#` and `--` are no comments
+    ("a\rb", 0, 0, "a b"),
+    ("#a\rb", 0, 0, "#a b"),
+    ("--a\r b", 0, 0, "--a b"),
+    ("--a\r\nb\rc", 0, 0, "--a\nb c"),
+    ("\r", 0, 0, ""),
+    ("a \r", 0, 0, "a"),
+)
+
+
+def worked(lines):
+    lines.group("document 01's text, and texts worked out by hand from its sentence")
+    for text, dialect, named, expected in WORKED:
+        number, detail, got = answer(text.encode("utf-8"), dialect, 0, named, MANY)
+        if (number, got) != (0, expected.encode("utf-8")) or detail != len(got):
+            sys.exit(f"{text!r}: the tokens give {got!r}, not {expected!r}")
+        lines.case(text, dialect, 0, named)
+
+
+# --------------------------------------------------------------------------
+# Gaps of every sort, the room lent, refusals
+
+BLANKS = (
+    "\t", "\n", "\x0b", "\x0c", "\r", " ", "\r\n", "\n\n", "\r\n\r\n", " \n", "\n ", "\r\r", "\n\r", "\u0085", "\u00a0", "\u1680", "\u2000", "\u2001", "\u2002", "\u2003", "\u2004", "\u2005", "\u2006", "\u2007",
+    "\u2008", "\u2009", "\u200a", "\u2028", "\u2029", "\u202f", "\u205f", "\u3000", "\u2003\n", "\n\u2003", "  \r\n\t\u3000",
+)  # fmt: skip
+
+
+def gaps(lines):
+    lines.group("each sort of white space: alone, outside, between, after a comment of each sort")
+    for blank in BLANKS:
+        for text in (
+            "{0}", "{0}a", "a{0}", "{0}a{0}", "a{0}b", "a{0}={0}b", "--c{0}", "--c{0}b", "#c{0}b", "#c{0}--d{0}b", "/*c*/{0}b", "/*{0}*/b", "--c\n{0}b", "--c\r\n{0}b", "--c{0}\nb", "'{0}'{0}c", "({0})",
+            "ORDER{0}BY{0}x", "a{0}::{0}b", "?{0}1", "@a{0}@'b{0}c'", "\u00e9{0}\u00e9",
+        ):  # fmt: skip
+            lines.every_dialect(text.format(blank))
+
+
+def room(lines):
+    lines.group("the room: nothing lent, one short, exactly full, one more")
+    for text, dialect, named, expected in WORKED:
+        needed = len(expected.encode("utf-8"))
+        for lent in sorted({0, 1, needed // 2, needed - 1, needed, needed + 1, len(text.encode("utf-8"))} - {-1}):
+            lines.case(text, dialect, 0, named, lent)
+
+
+def limits(lines):
+    lines.group("the longest statements, one byte more, and the room for them")
+    for byte in (b" ", b"\n", b"\r", b"a", b";", b"-", b"#", b"'", b"\x00"):
+        lines.case(byte, repeat=65536)
+        lines.case(byte, repeat=65536, lent=65536)
+        lines.case(byte, repeat=65536, lent=65535)
+        lines.case(byte, repeat=65536, lent=0)
+        lines.case(byte, repeat=65535, lent=65535)
+        lines.case(byte, repeat=65537)
+        lines.case(byte, repeat=65537, lent=0)
+    lines.group("several refusals at once: 3, then 1, then 2, then 6")
+    lines.case(b"a", 3, 0, 0, 0, repeat=65537)
+    lines.case(b"\xff", 0, 2, 0, 0, repeat=65537)
+    lines.case(b"\xff", 0, 0, 2, 0)
+    lines.case(b"\xff", 0, 0, 0, 0, repeat=65537)
+    lines.case(b"\xff", 0, 0, 0, 0, repeat=65536)
+    lines.case(b"a\xff", 0, 0, 0, 0)
+    lines.case(b"  a\xe2\x82", 0, 0, 0, 1)
+    lines.case(b"a b", 3, 0, 0, 1)
+    lines.case(b"a b", 0, 0, 0, 1)
+
+
+def main():
+    lines = Tightened()
+    worked(lines)
+    gaps(lines)
+    room(lines)
+    limits(lines)
+    for group in vectors.GROUPS_OF_CASES:
+        group(lines)
+    sys.stdout.buffer.write(("\n".join(lines.lines) + "\n").encode("utf-8"))
+
+
+if __name__ == "__main__":
+    main()
