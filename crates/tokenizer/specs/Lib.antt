@@ -5,3 +5,4 @@ pub mod Tokens
 pub mod Records
 pub mod Answers
 pub mod Values
+pub mod KeyText
