@@ -2,3 +2,5 @@
 pub mod TightText
 pub mod Parts
 pub mod Answers
+pub mod LoneReturn
+pub mod Agree

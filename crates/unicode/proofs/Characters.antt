@@ -25,7 +25,7 @@ use Rattle.unicode.proofs.Validation.{sequence-inside, step, stop}
 
 -- ---- first bytes and continuation bytes
 
-continuations-grow : (a b : ℕ) → a ≤ b → continuations a ≤ continuations b
+pub continuations-grow : (a b : ℕ) → a ≤ b → continuations a ≤ continuations b
 unfolding continuations
 continuations-grow a b h = go (ltb a 0xC0) (ltb a 0xE0) (ltb a 0xF0) (ltb b 0xC0) (ltb b 0xE0) (ltb b 0xF0) refl refl refl refl refl refl
   where
@@ -46,7 +46,7 @@ continuations-grow a b h = go (ltb a 0xC0) (ltb a 0xE0) (ltb a 0xF0) (ltb b 0xC0
     go false false false false false false e f g e′ f′ g′ = omega arith
 
 -- every range of the row holds continuation bytes only
-abbrev continuing : List (ℕ × ℕ) → Bool
+abbrev pub continuing : List (ℕ × ℕ) → Bool
 continuing [] = true
 continuing (range ∷ row) = (leb 0x80 (range .0) && leb (range .1) 0xBF) && continuing row
 
@@ -64,12 +64,12 @@ starts-continued (range ∷ row) (b ∷ s) c e =
     rw (le-leb 0x80 b low, le-leb b 0xBF high) (ap suc (starts-continued row s (c₂ .1) (e₂ .1)))
 
 -- a row's first bytes call for as many continuation bytes as the row has
-abbrev called : List (ℕ × ℕ) → Bool
+abbrev pub called : List (ℕ × ℕ) → Bool
 called [] = false
 called (range ∷ row) =
     (eqb (continuations (range .0)) (length row) && eqb (continuations (range .1)) (length row)) && continuing row
 
-abbrev allCalled : Rows → Bool
+abbrev pub allCalled : Rows → Bool
 allCalled [] = true
 allCalled (row ∷ rows) = called row && allCalled rows
 
@@ -105,7 +105,7 @@ rows-whole (row ∷ rows) b s n c e =
     go false q c₁ rest = rest (rw q at e)
 
 -- one test that the checker computes over the table
-table-called : allCalled table-3-7 ≡ true
+pub table-called : allCalled table-3-7 ≡ true
 unfolding table-3-7 continuations
 table-called = refl
 

@@ -10,4 +10,5 @@ pub mod Decoding
 pub mod Either
 pub mod Characters
 pub mod Cuts
+pub mod Replacing
 pub mod RunLaws

@@ -1,0 +1,72 @@
+-- When two searches agree: the same tokens, with gaps in the same places.
+use Prim.Native.Nat.{ℕ, zero, suc}
+use mathlib.Core.Bool.{Bool, true, cond, _&&_, _||_}
+use mathlib.Core.List.{List, [], _∷_}
+use mathlib.Core.Path.{_≡_}
+use lib.Dec.{eqb}
+use Rattle.recognisers.specs.declared.Key.{Key}
+use Rattle.recognisers.specs.declared.Key.the-variants.{None, Named, Escaped, ZeroIndexed, OneIndexed}
+use Rattle.recognisers.specs.declared.TokenKind.{TokenKind}
+use Rattle.recognisers.specs.declared.TokenKind.the-variants as K
+use Rattle.recognisers.specs.Kinds.{isKind}
+use Rattle.tokenizer.specs.declared.Settings.{Settings}
+use Rattle.tokenizer.specs.declared.Token.{Token}
+use Rattle.tokenizer.specs.KeyText.{keyText}
+use Rattle.tokenizer.specs.Tokens.{tokens}
+use Rattle.tokenizer.specs.Values.{value}
+
+-- what a key means, wherever its text stands: none, one text with escapes undone, or one number of one indexed kind
+pub data Meaning : Type 0 where
+  none : Meaning
+  named : List ℕ → Meaning
+  zero-indexed : ℕ → Meaning
+  one-indexed : ℕ → Meaning
+
+abbrev pub meaning : List ℕ → Key → Meaning
+meaning s None = none
+meaning s (Named start len) = named (keyText s (Named start len))
+meaning s (Escaped start len) = named (keyText s (Escaped start len))
+meaning s (ZeroIndexed n) = zero-indexed n
+meaning s (OneIndexed n) = one-indexed n
+
+-- what is compared of a token
+pub record Compared : Type 0 where
+  pub kind : TokenKind
+  pub value : List ℕ
+  pub alias : ℕ
+  pub key : Meaning
+
+unfoldable pub compared : List ℕ → Token → Compared
+compared s t = record { kind = t .kind; value = value s t; alias = t .alias; key = meaning s (t .key) }
+
+unfoldable pub comparedAll : List ℕ → List Token → List Compared
+comparedAll s [] = []
+comparedAll s (t ∷ ts) = compared s t ∷ comparedAll s ts
+
+-- the list that `tokenize` gives, as it is compared
+unfoldable pub reading : Settings → List ℕ → List Compared
+reading settings s = comparedAll s (tokens settings s)
+
+unfoldable pub isGap : Compared → Bool
+isGap c = isKind (c .kind) K.Whitespace
+
+-- gaps taken out
+unfoldable pub words : List Compared → List Compared
+words [] = []
+words (c ∷ cs) = cond (isGap c) (words cs) (c ∷ words cs)
+
+unfoldable pub onlyGaps : List Compared → Bool
+onlyGaps [] = true
+onlyGaps (c ∷ cs) = isGap c && onlyGaps cs
+
+-- The places of the gaps that aren't outer. A gap's place is the number of tokens before it, gaps not counted: n of them
+-- stand before this list. It is outer where those are none or all of them.
+unfoldable pub innerGaps : ℕ → List Compared → List ℕ
+innerGaps n [] = []
+innerGaps n (c ∷ cs) =
+    cond (isGap c) (cond (eqb n 0 || onlyGaps cs) (innerGaps n cs) (n ∷ innerGaps n cs)) (innerGaps (suc n) cs)
+
+-- one list of tokens: equally long and, at each index, the same in kind, value, alias length and key
+pub record Agree (settings : Settings) (s t : List ℕ) : Type 0 where
+  pub same-tokens : words (reading settings s) ≡ words (reading settings t)
+  pub same-gaps : innerGaps 0 (reading settings s) ≡ innerGaps 0 (reading settings t)
