@@ -1,15 +1,15 @@
 -- What any recogniser takes from a well-formed text ends where a character ends.
 -- Assumes nothing.
 use Prim.Native.Nat.{ℕ, zero, suc, _+_, _-_, _≤_, _<_, min, zero-le, suc-le-suc}
-use native.Mathlib.Nat.{le-refl, le-trans, le-of-suc-le-suc, not-suc-le-zero, min-le-left}
+use native.Mathlib.Nat.{le-refl, le-of-suc-le-suc, not-suc-le-zero, min-le-left}
 use native.Mathlib.Omega.{arith}
-use mathlib.Core.Path.{_≡_, refl, sym, ap, _∙_}
-use mathlib.Core.List.{List, [], _∷_, _++_}
+use mathlib.Core.Path.{_≡_, refl}
+use mathlib.Core.List.{List, [], _∷_}
 use mathlib.Core.Bool.{Bool, true, false, cond, not, _&&_, _||_, false≢true, and-eq-true-iff}
-use lib.ListN.{length, take, drop, getD}
+use lib.ListN.{drop}
 use lib.Seq.{drop-drop}
 use lib.Dec.{leb, ltb, eqb}
-use borrow.Author.Tests.{le-leb, leb-true, ltb-true, eqb-true}
+use borrow.Author.Tests.{leb-true, ltb-true, eqb-true}
 use Rattle.unicode.specs.Ranges.{within}
 use Rattle.unicode.specs.Character.{characterLength, codePoint}
 use Rattle.unicode.specs.Classes.{isWhitespace, isWordCharacter, isPlaceholderNameCharacter}
@@ -36,7 +36,7 @@ use Rattle.recognisers.specs.Parens.{inPostgreSql, getOpenParenToken, ge
 use Rattle.recognisers.specs.Number.{decimalNumber, signedDigits, exponent, scientificNotation, unsigned, getNumberToken}
 use Rattle.recognisers.specs.Placeholder.{keyed, indexedKey, indexedPart, getIndexedPlaceholderToken, placeholderName, identPart, getIdentNamedPlaceholderToken, throughBrace, bracedText, bracedPart, getBracedNamedPlaceholderToken, stringKey, stringNamedPart, getStringNamedPlaceholderToken, getPlaceholderToken}
 use Rattle.recognisers.specs.Words.{getWhitespaceToken, isOperator, getOperatorToken, getWordToken, getAnyOtherChar}
-use Rattle.unicode.proofs.Cuts.{Stop, at-end, before, behind, stop-cut, stop-later, ascii-next, run-cut, end-formed}
+use Rattle.unicode.proofs.Cuts.{Stop, at-end, before, behind, stop-cut, stop-later, ascii-next, run-cut}
 
 -- ---- what a part leaves
 

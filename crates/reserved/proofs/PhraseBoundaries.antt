@@ -4,7 +4,7 @@ use Prim.Native.Nat.{ℕ}
 use mathlib.Core.Path.{_≡_, refl}
 use mathlib.Core.List.{List, [], _∷_}
 use mathlib.Core.Bool.{Bool, true, false, cond, not, _&&_, _||_, and-eq-true-iff}
-use lib.ListN.{drop, take}
+use lib.ListN.{drop}
 use lib.Dec.{ltb, eqb}
 use borrow.Author.Tests.{ltb-true}
 use Rattle.unicode.specs.Utf8.{wellFormed}
@@ -12,10 +12,10 @@ use Rattle.recognisers.specs.declared.Taken.{Taken}
 use Rattle.recognisers.specs.declared.Taken.the-variants.{Bytes, Fails}
 use Rattle.recognisers.specs.declared.TokenKind.the-variants as K
 use Rattle.recognisers.specs.declared.Recognised.{Recognised}
-use Rattle.recognisers.specs.declared.Recognised.the-variants.{Token, Nothing}
+use Rattle.recognisers.specs.declared.Recognised.the-variants.{Nothing}
 use Rattle.recognisers.specs.Text.{bytes}
-use Rattle.recognisers.specs.Taking.{Part, more, or, done, one, capital, blanks, endOfWord}
-use Rattle.recognisers.specs.Pieces.{tokenOf, alt}
+use Rattle.recognisers.specs.Taking.{Part, done, one, capital, blanks, endOfWord}
+use Rattle.recognisers.specs.Pieces.{tokenOf}
 use Rattle.reserved.specs.declared.TopLevel.{TopLevel}
 use Rattle.reserved.specs.Phrases.{walk, after, optional, Phrase, phrase, phraseIfExists, phraseEnd, firstPhrase, each}
 use Rattle.reserved.specs.TopLevel.{topLevelPhrases, creatable, alterableOrDroppable, eachDropped}

@@ -1,14 +1,14 @@
 -- The tight text reads as the statement does.
 -- Assumes nothing.
-use Prim.Native.Nat.{ℕ, zero, suc, _+_, _≤_, _<_}
+use Prim.Native.Nat.{ℕ, zero, suc, _+_}
 use native.Mathlib.Omega.{arith}
 use mathlib.Core.Path.{_≡_, refl, sym, ap, _∙_}
 use mathlib.Core.List.{List, [], _∷_, _++_}
-use mathlib.Core.Bool.{Bool, true, false, cond, not, _&&_, _||_, true≢false, false≢true}
-use lib.ListN.{length, take, drop}
+use mathlib.Core.Bool.{Bool, true, false, not, _&&_, _||_, false≢true}
+use lib.ListN.{take, drop}
 use lib.Seq.{drop-drop}
 use Rattle.unicode.specs.Classes.{isWhitespace}
-use Rattle.unicode.specs.Character.{continuations, continued, codePoint}
+use Rattle.unicode.specs.Character.{continuations, continued}
 use Rattle.unicode.specs.Runs.{run}
 use Rattle.recognisers.specs.declared.Key.{Key}
 use Rattle.recognisers.specs.declared.Key.the-variants.{None, Named, Escaped, ZeroIndexed, OneIndexed}
@@ -25,18 +25,17 @@ use Rattle.tokenizer.specs.NextToken.{nextPiece}
 use Rattle.tokenizer.specs.Tokens.{givenOut}
 use Rattle.tokenizer.proofs.Sizing.{piece-sized}
 use Rattle.tokenizer.proofs.EndToEnd.{Recognises, piece-recognised}
-use Rattle.tight.specs.declared.Gap as G
-use Rattle.tight.specs.declared.Gap.the-variants.{Nothing, LineFeed, Space}
+use Rattle.tight.specs.declared.Gap.the-variants.{Nothing}
 use Rattle.tight.specs.TightText.{gapAfter, gapBytes}
-use Rattle.tight.specs.Agree.{Meaning, meaning, Compared, isGap, onlyGaps}
+use Rattle.tight.specs.Agree.{meaning, onlyGaps}
 use Rattle.tight.specs.LoneReturn.{noLoneReturn}
 use Rattle.tight.proofs.Whitespace.{isBlank, none-blank}
-use Rattle.tight.proofs.Sim.{Separator, space, newline, Ends, at-end, at-separator, Sim, nil, keep, same, swap, lose, Blank, blank, blank-sim, separator-blank, take-sim}
+use Rattle.tight.proofs.Sim.{Separator, space, newline, at-end, Sim, nil, keep, same, swap, lose, blank, blank-sim, separator-blank, take-sim}
 use Rattle.tight.proofs.Lines.{isNil, Broken, at-nil, at-newline, later, no-lone-drop}
 use Rattle.tight.proofs.Alike.{part-of, byte-of}
 use Rattle.tight.proofs.AlikePieces.{piece-sim, told}
-use Rattle.tight.proofs.Readings.{pieceCompared, past, readFrom, read-none, read-one, afterGap, run-text, gapCompared, read-gap, Item, item, gapNext, items, is-gap, given-line, compared-no-gap}
-use Rattle.tight.proofs.GapRuns.{each-rest, Gap, gap-of}
+use Rattle.tight.proofs.Readings.{pieceCompared, past, readFrom, read-none, read-one, afterGap, run-text, read-gap, Item, item, gapNext, items, is-gap, given-line, compared-no-gap}
+use Rattle.tight.proofs.GapRuns.{each-rest, gap-of}
 
 -- ---- one token of a reading
 
@@ -269,8 +268,8 @@ module _ (settings : Settings) (memory : Memory) (b : ℕ) (x : List ℕ) (lone 
       let x′ : List ℕ = take (f .n) x ++ y′ in
       let ends = told settings memory b x w (f .p) (f .is) (f .n) lone (f .long) .1 in
       let is′ : nextPiece settings memory (b ∷ (take (f .n) x ++ y′)) ≡ R.Token (f .p) =
-          piece-sim settings memory b x w (f .p) (f .is) (f .n) (take (f .n) x ++ y′) (k .sim) lone (f .long)
-          (λ l. k .broken (o .broken (given-line (settings .joins) (f .p .kind) ∙ l) (ends l))) in
+      piece-sim settings memory b x w (f .p) (f .is) (f .n) (take (f .n) x ++ y′) (k .sim) lone (f .long)
+      (λ l. k .broken (o .broken (given-line (settings .joins) (f .p .kind) ∙ l) (ends l))) in
       let same-value : take (f .p .len) (b ∷ x) ≡ take (f .p .len) (b ∷ (take (f .n) x ++ y′)) = rw (f .long) (take-sim (keep {b = b} (k .sim))) in
       record {
         sim = same (k .sim);

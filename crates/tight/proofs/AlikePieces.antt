@@ -1,25 +1,21 @@
 -- The next token of a tight text's rest is that of the statement's rest.
 -- Assumes nothing.
-use Prim.Native.Nat.{ℕ, zero, suc, _+_, _≤_, _<_}
+use Prim.Native.Nat.{ℕ, suc, _+_}
 use native.Mathlib.Omega.{arith}
 use mathlib.Core.Path.{_≡_, refl, sym, ap, _∙_}
 use mathlib.Core.List.{List, [], _∷_}
-use mathlib.Core.Bool.{Bool, true, false, cond, not, _&&_, _||_, true≢false, false≢true}
-use lib.ListN.{take, drop}
+use mathlib.Core.Bool.{Bool, true, false, cond, _&&_, _||_, true≢false, false≢true}
+use lib.ListN.{drop}
 use lib.Dec.{eqb}
 use borrow.Author.Tests.{eqb-true}
 use Rattle.unicode.specs.Ranges.{within, inRanges}
 use Rattle.unicode.specs.WhiteSpace.{whiteSpace}
 use Rattle.unicode.specs.Classes.{isWhitespace}
-use Rattle.unicode.specs.Character.{codePoint}
 use Rattle.unicode.specs.Runs.{run}
-use Rattle.recognisers.specs.declared.Dialect.{Dialect}
-use Rattle.recognisers.specs.declared.Key.{Key}
 use Rattle.recognisers.specs.declared.Key.the-variants.{None}
 use Rattle.recognisers.specs.declared.Piece.{Piece}
 use Rattle.recognisers.specs.declared.Taken.{Taken}
 use Rattle.recognisers.specs.declared.Taken.the-variants.{Bytes, Fails}
-use Rattle.recognisers.specs.declared.TokenKind.{TokenKind}
 use Rattle.recognisers.specs.declared.TokenKind.the-variants as K
 use Rattle.recognisers.specs.declared.Recognised.{Recognised}
 use Rattle.recognisers.specs.declared.Recognised.the-variants.{Token, Nothing}
@@ -35,10 +31,10 @@ use Rattle.tokenizer.specs.declared.Settings.{Settings}
 use Rattle.tokenizer.specs.NextToken.{fromWord, fromPlaceholder, fromOperator, fromReserved, fromNumber, fromCloseParen, fromOpenParen, fromString, fromTypeSpecifier, getNextToken, nextPiece}
 use Rattle.tight.specs.LoneReturn.{noLoneReturn}
 use Rattle.tight.proofs.Whitespace.{isBlank, blankByte}
-use Rattle.tight.proofs.Sim.{Sim, nil, keep, same, swap, lose, starts-sim, blank-sim}
+use Rattle.tight.proofs.Sim.{Sim, keep, starts-sim, blank-sim}
 use Rattle.tight.proofs.Same.{spelled-law, typed-leaves}
 use Rattle.tight.proofs.Scans.{block-law}
-use Rattle.tight.proofs.Lines.{isNil, Broken, at-nil, later, line-sim, line-end, line-some, no-lone-drop, bytes-inj}
+use Rattle.tight.proofs.Lines.{isNil, Broken, later, line-sim, line-end, line-some, no-lone-drop}
 use Rattle.tight.proofs.Alike.{Alike, nothing, one-token, unlike, alt-alike, token-alike, operator-alike, word-alike, type-specifier-alike, other-alike, string-alike, open-paren-alike, close-paren-alike, number-alike, placeholder-alike}
 use Rattle.tight.proofs.AlikePhrases.{reserved-alike}
 use Rattle.tight.proofs.PieceKinds.{OfText, text-no-gap, text-no-line, rest-text}
@@ -144,7 +140,6 @@ dash-broken {m} (keep {x′ = y′} t) k e = dashed-is y′ m (line-sim t (broke
 -- where the reading of x has a line comment, the tight text has its end at the same place
 module _ (n b : ℕ) (x x′ : List ℕ) (s : Sim n x x′) (lone : noLoneReturn x ≡ true) (r r′ : Recognised) (rest : Alike (suc n) r r′) (p : Piece)
     (long : p .len ≡ suc n) (broken : isKind (p .kind) K.LineComment ≡ true → Broken n x′) where
-
   pub comment-sim : alt (getCommentToken (b ∷ x)) r ≡ Token p → alt (getCommentToken (b ∷ x′)) r′ ≡ Token p
   unfolding blankByte isWhitespace inRanges within whiteSpace block
   comment-sim e = go x s lone e (comment-at b x)

@@ -1,11 +1,11 @@
 -- Line comments: in a text without a lone CR they are never refused, they end at whitespace or at the end, and they end at
 -- the same place in a tight text that has a LF there or ends.
 -- Assumes nothing.
-use Prim.Native.Nat.{ℕ, zero, suc, _+_, _≤_, _<_}
+use Prim.Native.Nat.{ℕ, zero, suc, _+_}
 use native.Mathlib.Omega.{arith}
-use mathlib.Core.Path.{_≡_, refl, sym, ap, _∙_}
+use mathlib.Core.Path.{_≡_, refl, sym, ap}
 use mathlib.Core.List.{List, [], _∷_}
-use mathlib.Core.Bool.{Bool, true, false, cond, not, _&&_, _||_, true≢false, false≢true}
+use mathlib.Core.Bool.{Bool, true, false, cond, not, _&&_, _||_, false≢true}
 use lib.ListN.{drop}
 use lib.Dec.{eqb}
 use borrow.Author.Tests.{eqb-true}

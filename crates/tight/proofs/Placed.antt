@@ -1,27 +1,24 @@
 -- Two searches agree exactly where their items are the same.
 -- Assumes nothing.
-use Prim.Native.Nat.{ℕ, zero, suc, _+_, _≤_, _<_}
-use native.Mathlib.Nat.{le-refl, le-trans}
+use Prim.Native.Nat.{ℕ, suc, _+_, _<_}
 use native.Mathlib.Omega.{arith}
 use mathlib.Core.Path.{_≡_, refl, sym, ap, _∙_}
-use mathlib.Core.List.{List, [], _∷_, _++_}
-use mathlib.Core.Bool.{Bool, true, false, cond, not, _&&_, _||_, true≢false, false≢true}
+use mathlib.Core.List.{List, [], _∷_}
+use mathlib.Core.Bool.{Bool, true, false, cond, not, _&&_}
 use lib.ListN.{drop}
 use lib.Seq.{drop-drop}
-use lib.Dec.{eqb}
 use borrow.Author.Tests.{ne-eqb}
 use Rattle.unicode.specs.Classes.{isWhitespace}
-use Rattle.unicode.specs.Character.{codePoint}
 use Rattle.unicode.specs.Runs.{run}
 use Rattle.tokenizer.specs.declared.Memory.{Memory}
 use Rattle.tokenizer.specs.declared.Settings.{Settings}
 use Rattle.tokenizer.specs.Memory.{start}
-use Rattle.tight.specs.Agree.{Compared, reading, isGap, words, onlyGaps, innerGaps, Agree}
+use Rattle.tight.specs.Agree.{Compared, reading, isGap, words, innerGaps, Agree}
 use Rattle.tight.proofs.Whitespace.{isBlank, none-blank}
 use Rattle.tight.proofs.Lines.{isNil}
-use Rattle.tight.proofs.Readings.{pieceCompared, past, readFrom, reading-is, read-none, read-one, afterGap, run-text, gapCompared, read-gap, Item, item, gapNext, items, is-gap, compared-no-gap}
-use Rattle.tight.proofs.GapRuns.{each-rest, Gap, gap-of}
-use Rattle.tight.proofs.Again.{Found, found, only-gaps, inner, items-one}
+use Rattle.tight.proofs.Readings.{past, readFrom, reading-is, read-none, read-one, afterGap, run-text, gapCompared, read-gap, Item, item, gapNext, items, is-gap, compared-no-gap}
+use Rattle.tight.proofs.GapRuns.{each-rest, gap-of}
+use Rattle.tight.proofs.Again.{found, only-gaps, inner, items-one}
 
 -- the tokens of items, and the places of the gaps behind them
 unfoldable strip : List Item → List Compared

@@ -1,21 +1,18 @@
 -- A reading counted from where it stands, and its tokens with what is told of the gaps between them.
 -- Assumes nothing.
-use Prim.Native.Nat.{ℕ, zero, suc, _+_, _-_, _≤_, _<_, pred, zero-le, suc-le-suc}
-use native.Mathlib.Nat.{add-assoc, add-suc, suc-add}
+use Prim.Native.Nat.{ℕ, zero, suc, _+_, _-_, pred}
+use native.Mathlib.Nat.{add-assoc}
 use native.Mathlib.Numerals.{add-one}
 use native.Mathlib.Omega.{arith}
 use mathlib.Core.Path.{_≡_, refl, sym, ap, _∙_}
-use mathlib.Core.List.{List, [], _∷_, _++_}
-use mathlib.Core.Bool.{Bool, true, false, cond, not, _&&_, _||_, true≢false, false≢true}
-use lib.ListN.{length, take, drop, getD, length-drop, drop-of-length-le}
-use lib.Seq.{drop-drop, getD-drop, drop-cons}
-use lib.Dec.{leb, eqb}
+use mathlib.Core.List.{List, [], _∷_}
+use mathlib.Core.Bool.{Bool, true, false, cond, not, _&&_}
+use lib.ListN.{take, drop}
+use lib.Seq.{drop-drop, getD-drop}
 use borrow.Author.Tests.{eqb-true, le-leb}
-use Rattle.unicode.specs.Character.{continuations, continued, codePoint}
+use Rattle.unicode.specs.Character.{continuations, continued}
 use Rattle.unicode.specs.Classes.{isWhitespace}
-use Rattle.unicode.specs.Runs.{inClass, run}
-use Rattle.unicode.specs.declared.Class.the-variants as C
-use Rattle.unicode.proofs.RunLaws.{run-inside}
+use Rattle.unicode.specs.Runs.{run}
 use Rattle.recognisers.specs.declared.Key.{Key}
 use Rattle.recognisers.specs.declared.Key.the-variants.{None, Named, Escaped, ZeroIndexed, OneIndexed}
 use Rattle.recognisers.specs.declared.Piece.{Piece}
@@ -24,22 +21,17 @@ use Rattle.recognisers.specs.declared.Recognised.the-variants as R
 use Rattle.recognisers.specs.declared.TokenKind.{TokenKind}
 use Rattle.recognisers.specs.declared.TokenKind.the-variants as K
 use Rattle.recognisers.specs.Kinds.{kindNumber, isKind}
-use Rattle.recognisers.specs.Pieces.{piece, tokenOf, alt}
-use Rattle.recognisers.specs.Taking.{atLeast}
+use Rattle.recognisers.specs.Pieces.{piece}
 use Rattle.recognisers.specs.Words.{getWhitespaceToken}
-use Rattle.recognisers.proofs.Sizes.{Sized, Sound}
 use Rattle.tokenizer.specs.declared.Memory.{Memory}
 use Rattle.tokenizer.specs.declared.Settings.{Settings}
 use Rattle.tokenizer.specs.declared.Token.{Token}
-use Rattle.tokenizer.specs.KeyText.{unescaped, keyText}
 use Rattle.tokenizer.specs.Memory.{start, remembered}
 use Rattle.tokenizer.specs.NextToken.{getNextToken, nextPiece}
 use Rattle.tokenizer.specs.Tokens.{givenOut, placed, tokenAt, tokensFrom, tokens}
 use Rattle.tokenizer.specs.Values.{value}
-use Rattle.tokenizer.proofs.Sizing.{piece-sized}
-use Rattle.tight.specs.Agree.{Meaning, meaning, Compared, compared, comparedAll, reading, isGap, words, onlyGaps}
-use Rattle.tight.proofs.Whitespace.{isBlank, none-blank}
-use Rattle.tight.proofs.Lines.{isNil}
+use Rattle.tight.specs.Agree.{Meaning, meaning, Compared, compared, comparedAll, reading, isGap, onlyGaps}
+use Rattle.tight.proofs.Whitespace.{isBlank}
 use Rattle.tight.proofs.PieceKinds.{NoGap, next-no-gap}
 use Rattle.tight.proofs.AlikePieces.{no-blank}
 

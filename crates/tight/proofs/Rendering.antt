@@ -3,10 +3,8 @@
 use Prim.Native.Nat.{ℕ}
 use mathlib.Core.Path.{_≡_, refl, sym, ap, _∙_}
 use mathlib.Core.List.{List, [], _∷_, _++_}
-use mathlib.Core.Bool.{Bool, true, false, cond, not, _&&_, true≢false, false≢true, and-eq-true-iff}
+use mathlib.Core.Bool.{Bool, true, false, cond, not, and-eq-true-iff}
 use Rattle.recognisers.specs.declared.TokenKind.{TokenKind}
-use Rattle.recognisers.specs.declared.TokenKind.the-variants as K
-use Rattle.recognisers.specs.Kinds.{isKind}
 use Rattle.tokenizer.specs.declared.Settings.{Settings}
 use Rattle.tokenizer.specs.declared.Token.{Token}
 use Rattle.tokenizer.specs.Tokens.{tokens}
@@ -16,7 +14,7 @@ use Rattle.tight.specs.declared.Gap.the-variants.{Nothing}
 use Rattle.tight.specs.TightText.{gapAfter, gapBytes, tightFrom, tight}
 use Rattle.tight.specs.TightText as T
 use Rattle.tight.specs.Agree.{Compared, compared, comparedAll, reading, isGap, onlyGaps}
-use Rattle.tight.proofs.Readings.{Item, item, gapNext, items}
+use Rattle.tight.proofs.Readings.{gapNext, items}
 use Rattle.tight.proofs.Again.{joint, render}
 
 only-items : (cs : List Compared) → onlyGaps cs ≡ true → items cs ≡ []

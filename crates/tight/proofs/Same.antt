@@ -1,26 +1,24 @@
 -- A part's law: of x and x′ with `Sim n x x′` it takes the same, as far as n tells.
 -- Assumes nothing.
-use Prim.Native.Nat.{ℕ, zero, suc, _+_, _≤_, _<_}
+use Prim.Native.Nat.{ℕ, zero, suc, _+_}
 use native.Mathlib.Numerals.{one-add}
 use native.Mathlib.Omega.{arith}
 use mathlib.Core.Path.{_≡_, refl, sym, ap, subst, _∙_}
 use mathlib.Core.List.{List, [], _∷_}
-use mathlib.Core.Bool.{Bool, true, false, cond, not, _&&_, _||_, true≢false, false≢true, and-eq-true-iff}
-use lib.ListN.{take, drop}
-use lib.Dec.{leb, ltb, eqb}
+use mathlib.Core.Bool.{Bool, true, false, cond, not, _&&_, false≢true}
+use lib.ListN.{drop}
+use lib.Dec.{leb, eqb}
 use borrow.Author.Tests.{le-leb}
-use Rattle.unicode.specs.Ranges.{within, inRanges}
-use Rattle.unicode.specs.WhiteSpace.{whiteSpace}
-use Rattle.unicode.specs.Character.{isContinuation, continuations, continued, codePoint}
+use Rattle.unicode.specs.Character.{isContinuation, continuations, continued}
 use Rattle.unicode.specs.Classes.{isWhitespace, isWordCharacter}
 use Rattle.unicode.specs.Runs.{run}
 use Rattle.recognisers.specs.declared.Taken.{Taken}
 use Rattle.recognisers.specs.declared.Taken.the-variants.{Bytes, Fails}
-use Rattle.recognisers.specs.Taking.{Part, or, done, one, spelled, typed, capital, blanks, endOfWord, digit0, digit1, count, isDigit, atLeast, contains, startsWith}
+use Rattle.recognisers.specs.Taking.{Part, or, done, one, spelled, typed, blanks, endOfWord, digit0, digit1, count, isDigit, contains}
 use Rattle.recognisers.specs.Taking as T
 use Rattle.recognisers.proofs.Spelling.{more-zero, more-more}
-use Rattle.tight.proofs.Whitespace.{isBlank, none-blank, blankByte, blank-no-word, zero-no-word, blank-whole, blank-capital, not-byte, range-quiet}
-use Rattle.tight.proofs.Sim.{Conts, last, more, Blank, blank, Separator, space, newline, Ends, at-end, at-separator, Sim, nil, keep, same, swap, lose, Blankish, ended, starts, blankish, separator-blank, separator-ish, ends-ish, class-sim, blank-sim}
+use Rattle.tight.proofs.Whitespace.{isBlank, none-blank, blankByte, blank-no-word, zero-no-word, blank-whole, not-byte, range-quiet}
+use Rattle.tight.proofs.Sim.{Conts, last, more, blank, Separator, space, newline, Ends, at-end, at-separator, Sim, nil, keep, same, swap, lose, Blankish, ended, starts, blankish, separator-blank, separator-ish, ends-ish, class-sim, blank-sim}
 
 -- both fail, or both take something; and where the first takes n bytes, so does the second
 pub data Same : ℕ → Taken → Taken → Type 0 where

@@ -1,21 +1,21 @@
 -- `Sim n x x′`: the rest x of a statement and the rest x′ of its tight text. Their first n bytes are the same; then on,
 -- a whitespace character of x may stand as one separator in x′, or be lost before one or at the end.
 -- Assumes nothing.
-use Prim.Native.Nat.{ℕ, zero, suc, _+_, _≤_, _<_}
+use Prim.Native.Nat.{ℕ, zero, suc}
 use native.Mathlib.Omega.{arith}
 use mathlib.Core.Path.{_≡_, refl, sym, ap, _∙_}
 use mathlib.Core.List.{List, [], _∷_}
-use mathlib.Core.Bool.{Bool, true, false, cond, not, _&&_, _||_, true≢false, false≢true}
-use lib.ListN.{take, drop, getD}
-use lib.Dec.{leb, ltb, eqb}
+use mathlib.Core.Bool.{Bool, true, false, cond}
+use lib.ListN.{take}
+use lib.Dec.{eqb}
 use borrow.Author.Tests.{eqb-true}
 use Rattle.unicode.specs.Ranges.{within, inRanges}
 use Rattle.unicode.specs.WhiteSpace.{whiteSpace}
 use Rattle.unicode.specs.Character.{isContinuation, continuations, continued, firstBits, withBits, codePoint, characterLength}
-use Rattle.unicode.specs.Classes.{isWhitespace, isWordCharacter, isPlaceholderNameCharacter}
+use Rattle.unicode.specs.Classes.{isWhitespace}
 use Rattle.unicode.specs.Runs.{run}
 use Rattle.recognisers.specs.Taking.{count, startsWith}
-use Rattle.tight.proofs.Whitespace.{isBlank, none-blank, zero-no-blank, blankByte, lead, lead-byte, blank-whole, not-byte}
+use Rattle.tight.proofs.Whitespace.{isBlank, blankByte, lead, lead-byte, not-byte}
 
 -- k continuation bytes, then y
 pub data Conts : ℕ → List ℕ → List ℕ → Type 0 where

@@ -1,19 +1,17 @@
 -- The tight text of an accepted search is accepted: it is no longer than the search, and well formed.
 -- Assumes nothing.
-use Prim.Native.Nat.{ℕ, zero, suc, _+_, _≤_, _<_}
+use Prim.Native.Nat.{ℕ, _+_, _≤_, _<_}
 use native.Mathlib.Nat.{le-trans}
 use native.Mathlib.Omega.{arith}
-use mathlib.Core.Path.{_≡_, refl, sym, ap, _∙_}
-use mathlib.Core.Logic.{_↔_}
-use mathlib.Core.List.{List, [], _∷_, _++_}
-use mathlib.Core.Bool.{Bool, true, false, cond, true≢false, false≢true}
+use mathlib.Core.Path.{_≡_, refl}
+use mathlib.Core.List.{List, [], _∷_}
+use mathlib.Core.Bool.{Bool, true, false, cond}
 use lib.ListN.{length, take, drop, take-append-drop}
 use lib.Seq.{drop-drop}
 use lib.Dec.{ltb}
 use borrow.Author.Tests.{le-ltb, ltb-false}
 use Rattle.unicode.specs.declared.IllFormed.{IllFormed}
 use Rattle.unicode.specs.declared.IllFormed.the-variants.{At, Nowhere}
-use Rattle.unicode.specs.Character.{codePoint}
 use Rattle.unicode.specs.Classes.{isWhitespace}
 use Rattle.unicode.specs.Runs.{run}
 use Rattle.unicode.specs.Utf8.{firstIllFormed, wellFormed}
@@ -24,7 +22,6 @@ use Rattle.recognisers.specs.declared.TokenKind.{TokenKind}
 use Rattle.recognisers.proofs.Boundaries.{Bounded}
 use Rattle.tokenizer.specs.declared.Answer.{Answer}
 use Rattle.tokenizer.specs.declared.Answer.the-variants as A
-use Rattle.tokenizer.specs.declared.Checked.{Checked}
 use Rattle.tokenizer.specs.declared.Checked.the-variants.{Accepted, Refused}
 use Rattle.tokenizer.specs.declared.Memory.{Memory}
 use Rattle.tokenizer.specs.declared.Settings.{Settings}
@@ -32,14 +29,13 @@ use Rattle.tokenizer.specs.Answers.{isSetting, settingsOf, longest, whenUtf8, c
 use Rattle.tokenizer.specs.Memory.{start}
 use Rattle.tokenizer.specs.Tokens.{givenOut}
 use Rattle.tokenizer.proofs.TokenBoundaries.{piece-bounded}
-use Rattle.tight.specs.TightText.{gapAfter, gapBytes, tight}
+use Rattle.tight.specs.TightText.{tight}
 use Rattle.tight.proofs.Shortness.{tight-short}
-use Rattle.tight.specs.Agree.{reading}
-use Rattle.tight.proofs.Whitespace.{isBlank, none-blank}
+use Rattle.tight.proofs.Whitespace.{isBlank}
 use Rattle.tight.proofs.Sim.{Separator, space, newline}
 use Rattle.tight.proofs.Readings.{past, readFrom, reading-is, read-none, afterGap, items}
-use Rattle.tight.proofs.GapRuns.{each-rest, Gap, gap-of}
-use Rattle.tight.proofs.Again.{Found, found, inner, items-gap, joint, render, render-one, Separates, separates}
+use Rattle.tight.proofs.GapRuns.{each-rest, gap-of}
+use Rattle.tight.proofs.Again.{found, inner, items-gap, joint, render, render-one, separates}
 use Rattle.tight.proofs.Rendering.{tight-is}
 use Rattle.unicode.proofs.Replacing.{replaced, ascii-before}
 

@@ -1,9 +1,9 @@
 -- What is handed out: never kind 16, and of an accepted statement only words that fit 32 bits, so that a record tells them all.
 -- Assumes nothing.
-use Prim.Native.Nat.{ℕ, _+_, _*_, _/_, _%_, _^_, _≤_, _<_}
+use Prim.Native.Nat.{ℕ, _+_, _^_, _≤_, _<_}
 use native.Mathlib.Omega.{arith}
-use mathlib.Core.Path.{_≡_, refl}
-use mathlib.Core.Bool.{Bool, true, false, cond}
+use mathlib.Core.Path.{_≡_}
+use mathlib.Core.Bool.{Bool, true, false}
 use mathlib.Core.List.{List}
 use lib.ListN.{length, drop, length-drop}
 use Rattle.recognisers.specs.declared.Key.{Key}
@@ -13,7 +13,7 @@ use Rattle.recognisers.specs.declared.Recognised.the-variants as R
 use Rattle.recognisers.specs.declared.TokenKind.{TokenKind}
 use Rattle.recognisers.specs.declared.TokenKind.the-variants
 use Rattle.recognisers.specs.Kinds.{kindNumber}
-use Rattle.recognisers.proofs.Sizes.{KeyFits, Sized, Sound}
+use Rattle.recognisers.proofs.Sizes.{KeyFits, Sized}
 use Rattle.tokenizer.specs.declared.Memory.{Memory}
 use Rattle.tokenizer.specs.declared.Settings.{Settings}
 use Rattle.tokenizer.specs.declared.Token.{Token}

@@ -1,21 +1,20 @@
 -- What stands behind a cut may be replaced.
 -- Assumes nothing.
 use Prim.Native.Nat.{ℕ, zero, suc, _+_, _-_, _≤_, _<_, zero-le, suc-le-suc}
-use native.Mathlib.Nat.{le-refl, le-trans, le-of-suc-le-suc, not-suc-le-zero}
+use native.Mathlib.Nat.{le-of-suc-le-suc, not-suc-le-zero}
 use native.Mathlib.Omega.{arith}
 use mathlib.Core.Path.{_≡_, refl, sym, ap, _∙_}
 use mathlib.Core.List.{List, [], _∷_, _++_}
-use mathlib.Core.Bool.{Bool, true, false, cond, _&&_, true≢false, false≢true, and-eq-true-iff}
-use lib.ListN.{length, take, drop, getD, length-append}
-use lib.Dec.{leb, ltb, eqb}
-use borrow.Author.Tests.{le-leb, lt-leb, leb-true, leb-false, lt-ltb, ltb-true, ltb-false, eqb-true}
+use mathlib.Core.Bool.{Bool, true, false, _&&_, false≢true, and-eq-true-iff}
+use lib.ListN.{length, take, length-append}
+use lib.Dec.{leb, eqb}
+use borrow.Author.Tests.{le-leb, leb-true, eqb-true}
 use Rattle.unicode.specs.Ranges.{within}
-use Rattle.unicode.specs.Character.{isContinuation, continuations, continued, characterLength}
+use Rattle.unicode.specs.Character.{isContinuation, continuations, continued}
 use Rattle.unicode.specs.Utf8.{table-3-7, startsWith, sequenceIn, sequenceLength, wellFormedFrom, wellFormed}
 use Rattle.unicode.proofs.Sequences.{Rows, sequence-between}
 use Rattle.unicode.proofs.Characters.{continuations-grow, continuing, called, allCalled, table-called, sequence-whole}
-use Rattle.unicode.proofs.Validation.{pass, step, stop, sequence-inside}
-use Rattle.unicode.proofs.Cuts.{end-formed}
+use Rattle.unicode.proofs.Validation.{pass, step, stop}
 
 -- ---- a sequence is told by the bytes that its first byte calls for
 
