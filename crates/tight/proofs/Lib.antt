@@ -20,3 +20,4 @@ pub mod Rendering
 pub mod Placed
 pub mod TightAccepted
 pub mod ThirdDemand
+pub mod Examples

@@ -1,0 +1,78 @@
+-- Worked examples of tight text, computed by the checker; and one that shows why the third demand sets lone CRs aside.
+-- Assumes nothing.
+use Prim.Native.Nat.{ℕ}
+use native.Mathlib.Omega.{arith}
+use mathlib.Core.Path.{_≡_, refl, sym, ap, _∙_}
+use mathlib.Core.Bool.{false}
+use mathlib.Core.List.{List, [], _∷_, map}
+use Rattle.recognisers.specs.declared.Dialect.the-variants.{Generic}
+use Rattle.recognisers.specs.declared.TokenKind.{TokenKind}
+use Rattle.recognisers.specs.declared.TokenKind.the-variants as K
+use Rattle.recognisers.specs.Text.{bytes}
+use Rattle.tokenizer.specs.declared.Settings.{Settings}
+use Rattle.unicode.specs.Alphabetic.{alphabetic}
+use Rattle.unicode.specs.Character.{isContinuation, continuations, continued, firstBits, withBits, characterLength, codePoint, character}
+use Rattle.unicode.specs.Classes.{isWhitespace, isAlphabetic, isNumeric, isMark, isPunctuationConnector, isAlphanumeric, isWordCharacter, isPlaceholderNameCharacter}
+use Rattle.unicode.specs.Connector.{connector}
+use Rattle.unicode.specs.Mark.{mark}
+use Rattle.unicode.specs.Numeric.{numeric}
+use Rattle.unicode.specs.Ranges.{within, inRanges, ordered, endsOf, inEnds, ascending}
+use Rattle.unicode.specs.Runs.{inClass, run}
+use Rattle.unicode.specs.WhiteSpace.{whiteSpace}
+use Rattle.recognisers.specs.Comment.{tillLineEnding, throughBlockEnd, getCommentToken}
+use Rattle.recognisers.specs.Number.{decimalNumber, signedDigits, exponent, scientificNotation, unsigned, getNumberToken}
+use Rattle.recognisers.specs.Parens.{getOpenParenToken, getCloseParenToken}
+use Rattle.recognisers.specs.Placeholder.{numberFrom, indexedKey, indexedPart, getIndexedPlaceholderToken, placeholderName, identPart, getIdentNamedPlaceholderToken, throughBrace, bracedText, bracedPart, getBracedNamedPlaceholderToken, hasEscape, stringKey, stringNamedPart, getStringNamedPlaceholderToken, getPlaceholderToken}
+use Rattle.recognisers.specs.Strings.{takeTillEscaping, closedBy, hexPart, quotedPart, stringPart, getStringToken, placeholderQuotedPart, placeholderStringPart}
+use Rattle.recognisers.specs.Taking.{one, spelled, isSpelled, typed, capital, blanks, endOfWord, count, digit1, digit0, contains, startsAmong, startsWith}
+use Rattle.recognisers.specs.TypeSpecifier.{getTypeSpecifierToken}
+use Rattle.recognisers.specs.Words.{getWhitespaceToken, isOperator, getOperatorToken, getWordToken, getAnyOtherChar}
+use Rattle.reserved.specs.Join.{joinPhrases}
+use Rattle.reserved.specs.Newline.{newlinePhrases}
+use Rattle.reserved.specs.NewlineAfter.{newlineAfterPhrases}
+use Rattle.reserved.specs.NoIndent.{noIndentPhrases}
+use Rattle.reserved.specs.Phrases.{walk, optional, phraseEnd, firstPhrase, each}
+use Rattle.reserved.specs.Plain.{plainTwoPhrases, plainA, plainB, plainC, plainD, plainE, plainF, plainG, plainH, plainI, plainK, plainL, plainM, plainN, plainO, plainP, plainQ, plainR, plainS, plainT, plainU, plainV, plainW, plainY, plainOnePhrases}
+use Rattle.reserved.specs.Reserved.{same, topLevelKind, aliasLength, getTopLevelReservedToken, getNewlineAfterReservedToken, getNewlineReservedToken, getJoinToken, getTopLevelReservedTokenNoIndent, getPlainReservedToken, mayBeReserved, getReservedWordToken}
+use Rattle.reserved.specs.TopLevel.{creatable, alterableOrDroppable, eachDropped, topLevelPhrases}
+use Rattle.tokenizer.specs.Memory.{takesTypeSpecifier, topLevelOf, afterBetween, lastTopLevel, remember, remembered}
+use Rattle.tokenizer.specs.NextToken.{fromWord, fromPlaceholder, fromOperator, fromReserved, fromNumber, fromCloseParen, fromOpenParen, fromString, fromTypeSpecifier, getNextToken, nextPiece}
+use Rattle.tokenizer.specs.Tokens.{givenOut, tokensFrom, tokens}
+use Rattle.tight.specs.TightText.{gapAfter, tightFrom, tight}
+use Rattle.tight.specs.TightText as T
+use Rattle.tight.specs.Agree.{Compared, compared, comparedAll, reading, isGap, words, Agree}
+
+pub generic : Settings
+generic = record { dialect = Generic; joins = false; named = false }
+
+-- a search and its tight text: document 01's, the empty text, blanks alone, and a quote that one space more would close
+pub examples : List (List ℕ × List ℕ)
+examples =
+    (bytes "a  --x\r\n\n b ", bytes "a --x\nb")
+    ∷ (bytes "", bytes "")
+    ∷ (bytes " \t\r\n", bytes "")
+    ∷ (bytes "'a\\'", bytes "'a\\'")
+    ∷ (bytes "#\ra", bytes "# a")
+    ∷ []
+
+pub tightened : map (λ e. tight generic (e .0)) examples ≡ map (λ e. e .1) examples
+unfolding alphabetic isContinuation continuations continued firstBits withBits characterLength codePoint character isWhitespace isAlphabetic isNumeric isMark isPunctuationConnector isAlphanumeric isWordCharacter isPlaceholderNameCharacter connector mark numeric within inRanges ordered endsOf inEnds ascending inClass run whiteSpace tillLineEnding throughBlockEnd getCommentToken decimalNumber signedDigits exponent scientificNotation unsigned getNumberToken getOpenParenToken getCloseParenToken numberFrom indexedKey indexedPart getIndexedPlaceholderToken placeholderName identPart getIdentNamedPlaceholderToken throughBrace bracedText bracedPart getBracedNamedPlaceholderToken hasEscape stringKey stringNamedPart getStringNamedPlaceholderToken getPlaceholderToken takeTillEscaping closedBy hexPart quotedPart stringPart getStringToken placeholderQuotedPart placeholderStringPart one spelled isSpelled typed capital blanks endOfWord count digit1 digit0 contains startsAmong startsWith getTypeSpecifierToken getWhitespaceToken isOperator getOperatorToken getWordToken getAnyOtherChar joinPhrases newlinePhrases newlineAfterPhrases noIndentPhrases walk optional phraseEnd firstPhrase each plainTwoPhrases plainA plainB plainC plainD plainE plainF plainG plainH plainI plainK plainL plainM plainN plainO plainP plainQ plainR plainS plainT plainU plainV plainW plainY plainOnePhrases same topLevelKind aliasLength getTopLevelReservedToken getNewlineAfterReservedToken getNewlineReservedToken getJoinToken getTopLevelReservedTokenNoIndent getPlainReservedToken mayBeReserved getReservedWordToken creatable alterableOrDroppable eachDropped topLevelPhrases takesTypeSpecifier topLevelOf afterBetween lastTopLevel remember remembered fromWord fromPlaceholder fromOperator fromReserved fromNumber fromCloseParen fromOpenParen fromString fromTypeSpecifier getNextToken nextPiece givenOut tokensFrom tokens T.isGap gapAfter tightFrom tight generic examples
+tightened = refl
+
+kinds : List Compared → List TokenKind
+kinds cs = map (λ c. c .kind) cs
+
+-- `#`, a lone CR, `a`: an operator, a gap and a word; its tight text `# a` is one line comment
+lone : kinds (words (reading generic (bytes "#\ra"))) ≡ K.Operator ∷ K.Word ∷ []
+unfolding alphabetic isContinuation continuations continued firstBits withBits characterLength codePoint character isWhitespace isAlphabetic isNumeric isMark isPunctuationConnector isAlphanumeric isWordCharacter isPlaceholderNameCharacter connector mark numeric within inRanges ordered endsOf inEnds ascending inClass run whiteSpace tillLineEnding throughBlockEnd getCommentToken decimalNumber signedDigits exponent scientificNotation unsigned getNumberToken getOpenParenToken getCloseParenToken numberFrom indexedKey indexedPart getIndexedPlaceholderToken placeholderName identPart getIdentNamedPlaceholderToken throughBrace bracedText bracedPart getBracedNamedPlaceholderToken hasEscape stringKey stringNamedPart getStringNamedPlaceholderToken getPlaceholderToken takeTillEscaping closedBy hexPart quotedPart stringPart getStringToken placeholderQuotedPart placeholderStringPart one spelled isSpelled typed capital blanks endOfWord count digit1 digit0 contains startsAmong startsWith getTypeSpecifierToken getWhitespaceToken isOperator getOperatorToken getWordToken getAnyOtherChar joinPhrases newlinePhrases newlineAfterPhrases noIndentPhrases walk optional phraseEnd firstPhrase each plainTwoPhrases plainA plainB plainC plainD plainE plainF plainG plainH plainI plainK plainL plainM plainN plainO plainP plainQ plainR plainS plainT plainU plainV plainW plainY plainOnePhrases same topLevelKind aliasLength getTopLevelReservedToken getNewlineAfterReservedToken getNewlineReservedToken getJoinToken getTopLevelReservedTokenNoIndent getPlainReservedToken mayBeReserved getReservedWordToken creatable alterableOrDroppable eachDropped topLevelPhrases takesTypeSpecifier topLevelOf afterBetween lastTopLevel remember remembered fromWord fromPlaceholder fromOperator fromReserved fromNumber fromCloseParen fromOpenParen fromString fromTypeSpecifier getNextToken nextPiece givenOut tokensFrom tokens compared comparedAll reading isGap words generic kinds
+lone = refl
+
+its-tight : kinds (words (reading generic (tight generic (bytes "#\ra")))) ≡ K.LineComment ∷ []
+unfolding alphabetic isContinuation continuations continued firstBits withBits characterLength codePoint character isWhitespace isAlphabetic isNumeric isMark isPunctuationConnector isAlphanumeric isWordCharacter isPlaceholderNameCharacter connector mark numeric within inRanges ordered endsOf inEnds ascending inClass run whiteSpace tillLineEnding throughBlockEnd getCommentToken decimalNumber signedDigits exponent scientificNotation unsigned getNumberToken getOpenParenToken getCloseParenToken numberFrom indexedKey indexedPart getIndexedPlaceholderToken placeholderName identPart getIdentNamedPlaceholderToken throughBrace bracedText bracedPart getBracedNamedPlaceholderToken hasEscape stringKey stringNamedPart getStringNamedPlaceholderToken getPlaceholderToken takeTillEscaping closedBy hexPart quotedPart stringPart getStringToken placeholderQuotedPart placeholderStringPart one spelled isSpelled typed capital blanks endOfWord count digit1 digit0 contains startsAmong startsWith getTypeSpecifierToken getWhitespaceToken isOperator getOperatorToken getWordToken getAnyOtherChar joinPhrases newlinePhrases newlineAfterPhrases noIndentPhrases walk optional phraseEnd firstPhrase each plainTwoPhrases plainA plainB plainC plainD plainE plainF plainG plainH plainI plainK plainL plainM plainN plainO plainP plainQ plainR plainS plainT plainU plainV plainW plainY plainOnePhrases same topLevelKind aliasLength getTopLevelReservedToken getNewlineAfterReservedToken getNewlineReservedToken getJoinToken getTopLevelReservedTokenNoIndent getPlainReservedToken mayBeReserved getReservedWordToken creatable alterableOrDroppable eachDropped topLevelPhrases takesTypeSpecifier topLevelOf afterBetween lastTopLevel remember remembered fromWord fromPlaceholder fromOperator fromReserved fromNumber fromCloseParen fromOpenParen fromString fromTypeSpecifier getNextToken nextPiece givenOut tokensFrom tokens T.isGap gapAfter tightFrom tight compared comparedAll reading isGap words generic kinds
+its-tight = refl
+
+pub lone-return-disagrees : Agree generic (bytes "#\ra") (tight generic (bytes "#\ra")) → ⊥
+lone-return-disagrees a =
+    let e : K.Operator ∷ K.Word ∷ [] ≡ K.LineComment ∷ [] = sym lone ∙ ap kinds (a .same-tokens) ∙ its-tight in
+    let z : _≡_ {A = ℕ} 0 1 = cc in
+    omega arith
