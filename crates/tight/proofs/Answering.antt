@@ -1,6 +1,7 @@
 -- The answers, and the output with each.
 -- Assumes nothing.
 use Prim.Native.Nat.{ℕ, _≤_, _<_}
+use native.Mathlib.Nat.{le-trans}
 use native.Mathlib.Omega.{arith}
 use mathlib.Core.Path.{_≡_, refl, sym, ap, _∙_}
 use mathlib.Core.List.{List, _++_}
@@ -19,6 +20,7 @@ use Rattle.tokenizer.specs.declared.Settings.{Settings}
 use Rattle.tokenizer.specs.Answers.{answerNumber, isSetting, longest, checkedText, checked}
 use Rattle.tight.specs.TightText.{tight}
 use Rattle.tight.specs.Answers.{textAnswer, textAfter, tightenAnswer, tightenOutput}
+use Rattle.tight.proofs.Shortness.{tight-short}
 
 module _ (text output : List ℕ) (n : ℕ) (c : n ≡ length text) where
   pub full-answer : length output < n → OutputFull n ≡ textAnswer text (length output)
@@ -32,13 +34,24 @@ module _ (text output : List ℕ) (n : ℕ) (c : n ≡ length text) where
   pub done-room : n ≤ length output → length text ≤ length output
   done-room f = rw (← c) f
 
-  pub done-answer : n ≤ length output → Done n ≡ textAnswer text (length output)
+  pub done-answer : (m : ℕ) → n ≤ length output → m ≡ length text → Done m ≡ textAnswer text (length output)
   unfolding textAnswer
-  done-answer f = rw (← c, le-ltb _ _ f)
+  done-answer m f e = rw (e, ← c, le-ltb _ _ f)
 
   pub done-output : (after : List ℕ) → n ≤ length output → after ≡ text ++ drop (length text) output → after ≡ textAfter text output
   unfolding textAfter
   done-output after f e = e ∙ rw (← c, le-ltb _ _ f)
+
+-- with as much room as the statement takes
+module _ (settings : Settings) (s output : List ℕ) (f : length s ≤ length output) where
+  pub long-room : length (tight settings s) ≤ length output
+  long-room = le-trans (tight-short settings s) f
+
+  pub long-answer : (n : ℕ) → n ≡ length (tight settings s) → Done n ≡ textAnswer (tight settings s) (length output)
+  long-answer n c = done-answer (tight settings s) output (length (tight settings s)) refl n long-room c
+
+  pub long-output : (after : List ℕ) → after ≡ tight settings s ++ drop (length (tight settings s)) output → after ≡ textAfter (tight settings s) output
+  long-output after e = done-output (tight settings s) output (length (tight settings s)) refl after long-room e
 
 -- ---- tighten
 

@@ -141,6 +141,9 @@ module _ (settings : Settings) (s before : List ℕ) where
               long = ap length l ∙ length-sets output n (part s (spacing .lead) t) ∙ at .long;
             })
 
+    pub write-count : r ≡ S.Done → n ≡ length (tight settings s)
+    write-count = count-end settings s n spacing c r (at .counted) e
+
     pub write-end : r ≡ S.Done → output ≡ tight settings s ++ drop (length (tight settings s)) before
     write-end f =
         at .wrote

@@ -34,8 +34,10 @@ pub fn tight_length(statement: &[u8], settings: Settings) -> usize
     }
 }
 
-pub fn write_tight(statement: &[u8], settings: Settings, output: &mut [u8])
+// How many bytes were written.
+pub fn write_tight(statement: &[u8], settings: Settings, output: &mut [u8]) -> usize
     requires { ⌜ length (tight settings (now statement)) ≤ length (now output) ⌝ }
+    ensures { λ r. ⌜ r ≡ length (tight settings (now (statement .entry))) ⌝ }
     ensures { λ _. ⌜ now (output .exit) ≡ tight settings (now (statement .entry)) ++ drop (length (tight settings (now (statement .entry)))) (now (output .entry)) ⌝ }
 {
     let mut at = 0;
@@ -51,7 +53,7 @@ pub fn write_tight(statement: &[u8], settings: Settings, output: &mut [u8])
                 cursor = next;
             }
             Step::Done => {
-                return;
+                return at;
             }
         }
     }

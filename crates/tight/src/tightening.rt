@@ -10,7 +10,8 @@ ghost use lib.ListN.{length};
 ghost use Rattle.tight.specs.TightText.{tight};
 ghost use Rattle.tight.specs.Answers.{textAnswer, textAfter, tightenAnswer, tightenOutput};
 
-fn fill_output(statement: &[u8], settings: Settings, output: &mut [u8]) -> Answer
+// Measures first: where the output is full, nothing may be written.
+fn fill_measured(statement: &[u8], settings: Settings, output: &mut [u8]) -> Answer
     ensures { λ r. ⌜ r ≡ textAnswer (tight settings (now (statement .entry))) (length (now (output .entry))) ⌝ }
     ensures { λ _. ⌜ now (output .exit) ≡ textAfter (tight settings (now (statement .entry))) (now (output .entry)) ⌝ }
 {
@@ -18,8 +19,18 @@ fn fill_output(statement: &[u8], settings: Settings, output: &mut [u8]) -> Answe
     if output.len() < needed {
         return Answer::OutputFull(needed as u64);
     }
-    write_tight(statement, settings, output);
-    Answer::Done(needed as u64)
+    Answer::Done(write_tight(statement, settings, output) as u64)
+}
+
+// A tight text is no longer than its statement: with that much room one pass is enough.
+fn fill_output(statement: &[u8], settings: Settings, output: &mut [u8]) -> Answer
+    ensures { λ r. ⌜ r ≡ textAnswer (tight settings (now (statement .entry))) (length (now (output .entry))) ⌝ }
+    ensures { λ _. ⌜ now (output .exit) ≡ textAfter (tight settings (now (statement .entry))) (now (output .entry)) ⌝ }
+{
+    if output.len() < statement.len() {
+        return fill_measured(statement, settings, output);
+    }
+    Answer::Done(write_tight(statement, settings, output) as u64)
 }
 
 pub fn tighten(statement: &[u8], dialect: u64, joins: u64, named: u64, output: &mut [u8]) -> Answer

@@ -19,6 +19,7 @@ use Rattle.tokenizer.specs.declared.Settings.{Settings}
 use Rattle.tokenizer.specs.Answers.{isSetting, settingsOf, checkedText, checked, tableAnswer, tableAfter, tokenizeAnswer, tokenizeRecords}
 use Rattle.tokenizer.specs.Records.{written}
 use Rattle.tokenizer.specs.Tokens.{tokens}
+use Rattle.tokenizer.proofs.EndToEnd.{tokens-short}
 
 -- ---- the table
 
@@ -34,13 +35,24 @@ module _ (settings : Settings) (s table : List ℕ) (n : ℕ) (c : n ≡ length 
   pub done-room : n ≤ length table / 28 → length (tokens settings s) * 28 ≤ length table
   done-room f = rw (← c) (omega arith)
 
-  pub done-answer : n ≤ length table / 28 → Done n ≡ tableAnswer settings s (length table)
+  pub done-answer : (m : ℕ) → n ≤ length table / 28 → m ≡ length (tokens settings s) → Done m ≡ tableAnswer settings s (length table)
   unfolding tableAnswer
-  done-answer f = rw (← c, le-ltb _ _ f)
+  done-answer m f e = rw (e, ← c, le-ltb _ _ f)
 
   pub done-table : (after : List ℕ) → n ≤ length table / 28 → after ≡ written (tokens settings s) table → after ≡ tableAfter settings s table
   unfolding tableAfter
   done-table after f e = e ∙ rw (← c, le-ltb _ _ f)
+
+-- with a record for each byte
+module _ (settings : Settings) (s table : List ℕ) (f : length s ≤ length table / 28) where
+  pub byte-room : length (tokens settings s) * 28 ≤ length table
+  byte-room = let k = tokens-short settings s in omega arith
+
+  pub byte-answer : (n : ℕ) → n ≡ length (tokens settings s) → Done n ≡ tableAnswer settings s (length table)
+  byte-answer n c = let k = tokens-short settings s in done-answer settings s table n c n (omega arith) c
+
+  pub byte-table : (after : List ℕ) → after ≡ written (tokens settings s) table → after ≡ tableAfter settings s table
+  byte-table after e = let k = tokens-short settings s in done-table settings s table (length (tokens settings s)) refl after (omega arith) e
 
 -- ---- what all operations refuse
 

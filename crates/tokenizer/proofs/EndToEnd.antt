@@ -1,6 +1,6 @@
 -- The values of a statement's tokens, laid end to end, are the statement.
 -- Assumes nothing.
-use Prim.Native.Nat.{ℕ, zero, suc, _+_, _-_, _≤_, _<_, zero-le}
+use Prim.Native.Nat.{ℕ, zero, suc, _+_, _-_, _≤_, _<_, zero-le, suc-le-suc}
 use native.Mathlib.Nat.{le-refl, le-trans, sub-zero}
 use native.Mathlib.Omega.{arith}
 use mathlib.Core.Path.{_≡_, refl, sym, ap, _∙_}
@@ -132,3 +132,19 @@ module _ (settings : Settings) (s : List ℕ) where
   pub end-to-end : values s (tokens settings s) ≡ s
   unfolding tokens
   end-to-end = from-cursor (length s) (record { at = 0; memory = start }) (omega arith)
+
+-- ---- no more tokens than bytes
+
+tokens-from-short : (settings : Settings) (memory : Memory) (at passed : ℕ) (s : List ℕ) → length (tokensFrom settings memory at passed s) ≤ length s
+unfolding tokensFrom
+tokens-from-short settings memory at passed [] = zero-le
+tokens-from-short settings memory at (suc passed) (b ∷ s) = le-trans (tokens-from-short settings memory (suc at) passed s) (omega arith)
+tokens-from-short settings memory at zero (b ∷ s) = go (nextPiece settings memory (b ∷ s)) refl (λ m k. tokens-from-short settings m (suc at) k s)
+  where
+    go : (q : Recognised) → nextPiece settings memory (b ∷ s) ≡ q → ((m : Memory) (k : ℕ) → length (tokensFrom settings m (suc at) k s) ≤ length s) → length (tokensFrom settings memory at zero (b ∷ s)) ≤ suc (length s)
+    go (R.Token p) e h = rw (tokensFrom, e) (suc-le-suc (h _ _))
+    go R.Nothing e h = rw (tokensFrom, e) zero-le
+
+pub tokens-short : (settings : Settings) (s : List ℕ) → length (tokens settings s) ≤ length s
+unfolding tokens
+tokens-short settings s = tokens-from-short settings start 0 0 s

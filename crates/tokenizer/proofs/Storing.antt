@@ -168,9 +168,12 @@ module _ (settings : Settings) (s before : List ℕ) where
             long = ap length g ∙ length-sets table i (recordOf t) ∙ at .long;
           }
 
+    all-written : r ≡ S.Done → length (tokens settings s) * 28 ≡ i
+    all-written f = rw (← walk-end settings s (at .n) c r (at .walked) e f, at .walked .count) (sym (at .place))
+
+    pub write-count : r ≡ S.Done → i / 28 ≡ length (tokens settings s)
+    write-count f = omega (arith, all-written f)
+
     pub write-end : r ≡ S.Done → table ≡ written (tokens settings s) before
     unfolding written
-    write-end f =
-        let p = walk-end settings s (at .n) c r (at .walked) e f in
-        let q : length (tokens settings s) * 28 ≡ i = rw (← p, at .walked .count) (sym (at .place)) in
-        at .wrote ∙ rw (p, q)
+    write-end f = at .wrote ∙ rw (walk-end settings s (at .n) c r (at .walked) e f, all-written f)

@@ -48,8 +48,10 @@ pub fn count_tokens(statement: &[u8], settings: Settings) -> usize
     }
 }
 
-fn write_tokens(statement: &[u8], settings: Settings, table: &mut [u8])
+// How many records were written.
+fn write_tokens(statement: &[u8], settings: Settings, table: &mut [u8]) -> usize
     requires { ⌜ length (tokens settings (now statement)) * 28 ≤ length (now table) ⌝ }
+    ensures { λ r. ⌜ r ≡ length (tokens settings (now (statement .entry))) ⌝ }
     ensures { λ _. ⌜ now (table .exit) ≡ written (tokens settings (now (statement .entry))) (now (table .entry)) ⌝ }
 {
     let mut at = 0;
@@ -62,13 +64,14 @@ fn write_tokens(statement: &[u8], settings: Settings, table: &mut [u8])
                 cursor = next;
             }
             Step::Done => {
-                return;
+                return at / 28;
             }
         }
     }
 }
 
-pub fn fill_table(statement: &[u8], settings: Settings, table: &mut [u8]) -> Answer
+// Counts first: where the table is full, nothing may be written.
+fn fill_counted(statement: &[u8], settings: Settings, table: &mut [u8]) -> Answer
     ensures { λ r. ⌜ r ≡ tableAnswer settings (now (statement .entry)) (length (now (table .entry))) ⌝ }
     ensures { λ _. ⌜ now (table .exit) ≡ tableAfter settings (now (statement .entry)) (now (table .entry)) ⌝ }
 {
@@ -76,6 +79,16 @@ pub fn fill_table(statement: &[u8], settings: Settings, table: &mut [u8]) -> Ans
     if table.len() / 28 < count {
         return Answer::TableFull(count as u64);
     }
-    write_tokens(statement, settings, table);
-    Answer::Done(count as u64)
+    Answer::Done(write_tokens(statement, settings, table) as u64)
+}
+
+// With a record for each byte of the statement no table is full, since every token has a byte: one pass is enough.
+pub fn fill_table(statement: &[u8], settings: Settings, table: &mut [u8]) -> Answer
+    ensures { λ r. ⌜ r ≡ tableAnswer settings (now (statement .entry)) (length (now (table .entry))) ⌝ }
+    ensures { λ _. ⌜ now (table .exit) ≡ tableAfter settings (now (statement .entry)) (now (table .entry)) ⌝ }
+{
+    if table.len() / 28 < statement.len() {
+        return fill_counted(statement, settings, table);
+    }
+    Answer::Done(write_tokens(statement, settings, table) as u64)
 }

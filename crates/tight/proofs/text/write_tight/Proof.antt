@@ -1,7 +1,7 @@
 use Prim.Native.Nat.{_-_}
 use lib.ListN.{length}
 use borrow.Author.Needs.{needs}
-use Rattle.tight.proofs.Passing.{Wrote, write-start, write-inside, write-room, write-part-fits, write-fits, write-less, write-more, write-end}
+use Rattle.tight.proofs.Passing.{Wrote, write-start, write-inside, write-room, write-part-fits, write-fits, write-less, write-more, write-count, write-end}
 use Rattle.tight.proofs.text.write_tight.Statement.{statement}
 use Rattle.tight.proofs.text.write_tight.Tie as tie
 
@@ -51,7 +51,7 @@ same-length : tie.Need-same-length Inv-loop μ-loop
 same-length c = search needs
 
 returns : tie.Need-returns Inv-loop μ-loop
-returns c = search write-end
+returns c = search (write-count, write-end)
 
 pub write-tight-spec : {M : Type 1} → statement M
 write-tight-spec =

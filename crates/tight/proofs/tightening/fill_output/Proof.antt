@@ -1,23 +1,26 @@
 use borrow.Author.Needs.{needs}
-use Rattle.tight.proofs.Answering.{full-answer, full-output, done-room, done-answer, done-output}
+use Rattle.tight.proofs.Answering.{long-room, long-answer, long-output}
 use Rattle.tight.proofs.tightening.fill_output.Statement.{statement}
 use Rattle.tight.proofs.tightening.fill_output.Tie as tie
 
-tight-length-requires : tie.Need-tight-length-requires
-tight-length-requires c κs = search needs
-
-returns : tie.Need-returns
-returns c = search (full-answer, full-output)
-
-write-tight-requires : tie.Need-write-tight-requires
-write-tight-requires c κs = search done-room
+fill-measured-requires : tie.Need-fill-measured-requires
+fill-measured-requires c κs = search needs
 
 same-length : tie.Need-same-length
 same-length c = search needs
 
+returns : tie.Need-returns
+returns c = search needs
+
+write-tight-requires : tie.Need-write-tight-requires
+write-tight-requires c κs = search long-room
+
+same-length-2 : tie.Need-same-length-2
+same-length-2 c = search needs
+
 returns-2 : tie.Need-returns-2
-returns-2 c = search (done-answer, done-output)
+returns-2 c = search (long-answer, long-output)
 
 pub fill-output-spec : {M : Type 1} → statement M
 fill-output-spec =
-    tie.close (tie.spec tight-length-requires returns write-tight-requires same-length returns-2)
+    tie.close (tie.spec fill-measured-requires same-length returns write-tight-requires same-length-2 returns-2)

@@ -1,23 +1,26 @@
 use borrow.Author.Needs.{needs}
-use Rattle.tokenizer.proofs.Answering.{full-answer, full-table, done-room, done-answer, done-table}
+use Rattle.tokenizer.proofs.Answering.{byte-room, byte-answer, byte-table}
 use Rattle.tokenizer.proofs.table.fill_table.Statement.{statement}
 use Rattle.tokenizer.proofs.table.fill_table.Tie as tie
 
-count-tokens-requires : tie.Need-count-tokens-requires
-count-tokens-requires c κs = search needs
-
-returns : tie.Need-returns
-returns c = search (full-answer, full-table)
-
-write-tokens-requires : tie.Need-write-tokens-requires
-write-tokens-requires c κs = search done-room
+fill-counted-requires : tie.Need-fill-counted-requires
+fill-counted-requires c κs = search needs
 
 same-length : tie.Need-same-length
 same-length c = search needs
 
+returns : tie.Need-returns
+returns c = search needs
+
+write-tokens-requires : tie.Need-write-tokens-requires
+write-tokens-requires c κs = search byte-room
+
+same-length-2 : tie.Need-same-length-2
+same-length-2 c = search needs
+
 returns-2 : tie.Need-returns-2
-returns-2 c = search (done-answer, done-table)
+returns-2 c = search (byte-answer, byte-table)
 
 pub fill-table-spec : {M : Type 1} → statement M
 fill-table-spec =
-    tie.close (tie.spec count-tokens-requires returns write-tokens-requires same-length returns-2)
+    tie.close (tie.spec fill-counted-requires same-length returns write-tokens-requires same-length-2 returns-2)

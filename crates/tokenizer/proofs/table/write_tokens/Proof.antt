@@ -1,7 +1,7 @@
 use Prim.Native.Nat.{_-_}
 use lib.ListN.{length}
 use borrow.Author.Needs.{needs}
-use Rattle.tokenizer.proofs.Storing.{Writing, write-start, write-room, write-fits, write-less, write-more, write-end}
+use Rattle.tokenizer.proofs.Storing.{Writing, write-start, write-room, write-fits, write-less, write-more, write-count, write-end}
 use Rattle.tokenizer.proofs.table.write_tokens.Statement.{statement}
 use Rattle.tokenizer.proofs.table.write_tokens.Tie as tie
 
@@ -42,7 +42,7 @@ same-length : tie.Need-same-length Inv-loop μ-loop
 same-length c = search needs
 
 returns : tie.Need-returns Inv-loop μ-loop
-returns c = search write-end
+returns c = search (write-count, write-end)
 
 pub write-tokens-spec : {M : Type 1} → statement M
 write-tokens-spec =
