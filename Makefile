@@ -4,7 +4,11 @@
 # make tables   prints the character tables anew (needs rustc and Debian's librust-unicode-categories-dev)
 
 build := target/test
+archive := target/staticlib/libventpeeler.a
 rust := rustc --edition 2021 -O
+warnings := -Wall -Wextra -Wpedantic -Werror
+c := cc -std=c99 -O2 $(warnings) -Iinclude
+example := examples/search.c examples/no_filling.c
 categories := /usr/share/cargo/registry/unicode_categories-0.1.1/src/lib.rs
 
 .PHONY: all test bench tables
@@ -29,8 +33,10 @@ tables: $(build)/tables
 	$(build)/tables sweep > crates/sweep/stdout
 	rt fmt
 
-target/staticlib/lib%.a: crates/%/src/lib.rt FORCE
+# an archive is written anew where any file of a crate is younger
+target/staticlib/lib%.a: crates.txt $(shell find crates -type f)
 	@rt staticlib $* > target/staticlib.log 2>&1 || { cat target/staticlib.log; exit 1; }
+	@touch $@
 
 $(build)/bench_unicode: bench/unicode.rs bench/timing.rs tests/unicode/unicode.rs target/staticlib/libunicode_exports.a
 	@mkdir -p $(build)
@@ -40,13 +46,31 @@ $(build)/utf8: tests/unicode/utf8.rs tests/unicode/unicode.rs target/staticlib/l
 	@mkdir -p $(build)
 	$(rust) -o $@ $< -L target/staticlib -l static=unicode_exports
 
-$(build)/bench_tokenize: bench/tokenize.rs bench/timing.rs target/staticlib/libventpeeler.a
+$(build)/bench_tokenize: bench/tokenize.rs bench/timing.rs $(archive)
 	@mkdir -p $(build)
 	$(rust) -o $@ $< -L target/staticlib -l static=ventpeeler
 
-$(build)/replay_%: tests/%/replay.rs tests/replaying.rs target/staticlib/libventpeeler.a
+$(build)/replay_%: tests/%/replay.rs tests/replaying.rs $(archive)
 	@mkdir -p $(build)
 	$(rust) -o $@ $< -L target/staticlib -l static=ventpeeler
+
+$(build)/search: $(wildcard examples/*) include/ventpeeler.h $(archive)
+	@mkdir -p $(build)
+	$(c) -o $@ $(example) $(archive)
+
+c_parts := tests/c/checks.h tests/c/lent.h include/ventpeeler.h $(archive)
+
+$(build)/c_%: tests/c/%.c $(c_parts)
+	@mkdir -p $(build)
+	$(c) -o $@ $< $(archive)
+
+$(build)/sanitized_%: tests/c/%.c $(c_parts)
+	@mkdir -p $(build)
+	$(c) -g -fsanitize=address,undefined -fno-sanitize-recover=all -o $@ $< $(archive)
+
+$(build)/cxx_%: tests/c/%.c $(c_parts)
+	@mkdir -p $(build)
+	c++ -std=c++11 -O2 $(warnings) -Iinclude -o $@ -x c++ $< -x none $(archive)
 
 # unicode_categories is older than its compiler, which warns of that
 $(build)/libunicode_categories.rlib: $(categories)
@@ -55,5 +79,3 @@ $(build)/libunicode_categories.rlib: $(categories)
 
 $(build)/tables: tools/tables.rs $(build)/libunicode_categories.rlib
 	$(rust) -o $@ $< --extern unicode_categories=$(build)/libunicode_categories.rlib
-
-FORCE:
