@@ -23,10 +23,10 @@ test:
 	tools/setup
 	tests/run
 
-bench: $(build)/bench_unicode $(build)/bench_tokenize
+bench: $(build)/bench_unicode $(build)/bench_reading
 	$(build)/bench_unicode
 	@echo
-	$(build)/bench_tokenize
+	$(build)/bench_reading
 
 tables: $(build)/tables
 	$(build)/tables crates/unicode
@@ -46,9 +46,12 @@ $(build)/utf8: tests/unicode/utf8.rs tests/unicode/unicode.rs target/staticlib/l
 	@mkdir -p $(build)
 	$(rust) -o $@ $< -L target/staticlib -l static=unicode_exports
 
-$(build)/bench_tokenize: bench/tokenize.rs bench/timing.rs $(archive)
+$(build)/bench_%: bench/%.rs bench/timing.rs bench/searches.rs bench/scanner.c tests/calls.rs tests/random/texts.rs $(archive)
 	@mkdir -p $(build)
-	$(rust) -o $@ $< -L target/staticlib -l static=ventpeeler
+	$(c) -c -o $(build)/scanner.o bench/scanner.c
+	rm -f $(build)/libscanner.a
+	ar rc $(build)/libscanner.a $(build)/scanner.o
+	$(rust) -o $@ $< -L $(build) -l static=scanner -L target/staticlib -l static=ventpeeler
 
 $(build)/replay_%: tests/%/replay.rs tests/replaying.rs $(archive)
 	@mkdir -p $(build)
@@ -71,6 +74,18 @@ $(build)/sanitized_%: tests/c/%.c $(c_parts)
 $(build)/cxx_%: tests/c/%.c $(c_parts)
 	@mkdir -p $(build)
 	c++ -std=c++11 -O2 $(warnings) -Iinclude -o $@ -x c++ $< -x none $(archive)
+
+$(build)/random_%: tests/random/%.rs $(wildcard tests/random/*.rs) tests/calls.rs $(archive)
+	@mkdir -p $(build)
+	$(rust) -o $@ $< -L target/staticlib -l static=ventpeeler
+
+$(build)/stack_%: tests/stack/%.rs $(wildcard tests/stack/*) tests/random/texts.rs include/ventpeeler.h $(archive)
+	@mkdir -p $(build)
+	$(c) -c -o $(build)/painted.o tests/stack/painted.c
+	$(c) -c -o $(build)/painted_fill.o tests/stack/painted_fill.c
+	rm -f $(build)/libpainted.a
+	ar rc $(build)/libpainted.a $(build)/painted.o $(build)/painted_fill.o
+	$(rust) -o $@ $< -L $(build) -l static=painted -L target/staticlib -l static=ventpeeler
 
 # unicode_categories is older than its compiler, which warns of that
 $(build)/libunicode_categories.rlib: $(categories)

@@ -1,0 +1,81 @@
+// Speed of tokenize and tighten through the C boundary, beside a plain scanner in C, std::str::from_utf8 and memcpy in the same
+// run; and how their time grows with texts that could be slow.
+#[path = "../tests/calls.rs"]
+mod calls;
+mod searches;
+mod timing;
+
+use calls::{tighten, tokenize, Answer, DONE, RECORD};
+use searches::texts::{hard, HARD};
+use std::hint::black_box;
+use timing::{time, time_slow};
+
+extern "C" {
+    fn plain_scan(text: *const u8, length: usize, records: *mut u8, room: usize) -> usize;
+}
+
+fn speeds(name: &str, text: &[u8], table: &mut [u8]) {
+    let (number, tokens) = tokenize(text, [0, 0, 0], table);
+    assert!(number == DONE);
+    let bytes = text.len() as f64;
+    let mut copy = vec![0; text.len()];
+    let read = time(|| {
+        black_box(tokenize(black_box(text), [0, 0, 0], black_box(table)));
+    });
+    let tightened = time(|| {
+        black_box(tighten(black_box(text), [0, 0, 0], black_box(&mut copy)));
+    });
+    let scanned = time(|| {
+        black_box(unsafe { plain_scan(black_box(text).as_ptr(), text.len(), table.as_mut_ptr(), table.len()) });
+    });
+    let valid = time(|| {
+        black_box(std::str::from_utf8(black_box(text)).is_ok());
+    });
+    let copied = time(|| black_box(&mut copy).copy_from_slice(black_box(text)));
+    println!(
+        "{name:20} {:6} {tokens:7} {:10.2} {:9.2} {:9.2} {:10.3} {:8.3} {:10.1} {:9.1}",
+        text.len(),
+        read / bytes,
+        tightened / bytes,
+        scanned / bytes,
+        valid / bytes,
+        copied / bytes,
+        read / scanned,
+        tightened / scanned,
+    );
+}
+
+// Nanoseconds a byte at each size, and the last size's beside the one before: 1 where time grows with the length, 2 where it
+// grows with the square.
+fn growth(name: &str, mut call: impl FnMut(usize) -> f64) {
+    let times: Vec<f64> = [8192, 16384, 32768, 65536].map(|most| call(most)).to_vec();
+    print!("{name:24}");
+    times.iter().for_each(|time| print!("{time:10.1}"));
+    println!("{:8.1}", times[3] / times[2]);
+}
+
+fn growths(title: &str, call: fn(&[u8], [u64; 3], &mut [u8]) -> Answer, table: &mut [u8]) {
+    println!("\n{title:24}     8 KiB    16 KiB    32 KiB    64 KiB  growth");
+    for (name, before, part, behind, dialect) in HARD {
+        growth(name, |most| {
+            let text = hard(before, part, behind, most);
+            let time = time_slow(|| {
+                black_box(call(black_box(&text), [*dialect, 0, 0], table));
+            });
+            time / text.len() as f64
+        });
+    }
+}
+
+fn main() {
+    let mut table = vec![0; 65536 * RECORD];
+    println!("                                         ns a byte                                              time / scanner's");
+    println!(
+        "                      bytes  tokens   tokenize   tighten   scanner  from_utf8   memcpy   tokenize   tighten"
+    );
+    for (name, text) in searches::all() {
+        speeds(name, &text, &mut table);
+    }
+    growths("tokenize, ns a byte", tokenize, &mut table);
+    growths("tighten, ns a byte", tighten, &mut table);
+}
