@@ -1,6 +1,6 @@
-# make          proves the crates, builds the programs and runs one on a sample
+# make          proves the crates, builds the archive for C and the example, and runs the example on a sample
 # make test     runs all tests; the last line counts them
-# make bench    prints speeds beside Rust's
+# make bench    prints speeds beside a plain scanner's and Rust's
 # make tables   prints the character tables anew (needs rustc and Debian's librust-unicode-categories-dev)
 
 build := target/test
@@ -15,9 +15,9 @@ categories := /usr/share/cargo/registry/unicode_categories-0.1.1/src/lib.rs
 
 all:
 	rt check
-	@echo
-	@echo "The tokens of samples/gaps.sql: kind, start, length, alias length, key kind, key a, key b"
-	@target/bin/listing < samples/gaps.sql
+	@$(MAKE) --silent $(build)/search
+	@printf '\nsamples/slab.sql, with values for its placeholders:\n\n'
+	@$(build)/search samples/slab.sql "'L2'" 35 "'2026-11-16'" "'2026-11-17'" 20
 
 test:
 	tools/setup
@@ -35,6 +35,7 @@ tables: $(build)/tables
 
 # an archive is written anew where any file of a crate is younger
 target/staticlib/lib%.a: crates.txt $(shell find crates -type f)
+	@mkdir -p target
 	@rt staticlib $* > target/staticlib.log 2>&1 || { cat target/staticlib.log; exit 1; }
 	@touch $@
 
