@@ -7,7 +7,7 @@ mod timing;
 
 use calls::{fill, DONE, RECORD};
 use std::hint::black_box;
-use timing::{text, time, time_slow};
+use timing::{text, time_slow, together};
 
 extern "C" {
     fn plain_scan(text: *const u8, length: usize, records: *mut u8, room: usize) -> usize;
@@ -37,25 +37,29 @@ fn wide_sheet(kind: u8, most: usize) -> Vec<u8> {
     sheet(kind, &entries)
 }
 
+fn scan(text: &[u8], records: &mut [u8]) {
+    black_box(unsafe { plain_scan(text.as_ptr(), text.len(), records.as_mut_ptr(), records.len()) });
+}
+
+fn filled(text: &[u8], sheet: &[u8], output: &mut [u8]) {
+    assert!(black_box(fill(black_box(text), [0, 0, 0], sheet, output)).0 == DONE);
+}
+
 fn speeds(name: &str, text: &[u8], table: &mut [u8]) {
     let named = sheet(NAMED, &[("zone", "'Zone 4'"), ("coiler", "2"), ("печь", "3")]);
     let indexed = sheet(INDEXED, &[("", "35"), ("", "'Zone 4'"), ("", "20")]);
-    let mut output = vec![0; 1 << 20];
-    let bytes = text.len() as f64;
-    let mut per_byte = |sheet: &[u8]| {
-        assert!(fill(text, [0, 0, 0], sheet, &mut output).0 == DONE);
-        time(|| {
-            black_box(fill(black_box(text), [0, 0, 0], sheet, black_box(&mut output)));
-        })
-    };
-    let times = [per_byte(&[0, 0, 0]), per_byte(&indexed), per_byte(&named)];
-    let scanned = time(|| {
-        black_box(unsafe { plain_scan(black_box(text).as_ptr(), text.len(), table.as_mut_ptr(), table.len()) });
-    });
-    let copied = time(|| black_box(&mut output[..text.len()]).copy_from_slice(black_box(text)));
+    let [mut first, mut second, mut third] = [(); 3].map(|_| vec![0; 1 << 20]);
+    let mut copy = vec![0; text.len()];
+    let times = together([
+        &mut || filled(text, &[0, 0, 0], &mut first),
+        &mut || filled(text, &indexed, &mut second),
+        &mut || filled(text, &named, &mut third),
+        &mut || scan(black_box(text), table),
+        &mut || black_box(&mut copy).copy_from_slice(black_box(text)),
+    ]);
     print!("{name:20} {:6}", text.len());
-    times.iter().chain([&scanned, &copied]).for_each(|time| print!(" {:10.2}", time / bytes));
-    println!(" {:10.1}", times[1] / scanned);
+    (0..5).for_each(|call| print!(" {:10.3}", times.time(call) / text.len() as f64));
+    println!(" {:10.1} {:10.1}", times.ratio(1, 3), times.ratio(2, 3));
 }
 
 // Statement and sheet both of so many bytes.
@@ -64,11 +68,7 @@ fn growth(name: &str, part: &str, kind: u8) {
     let mut output = vec![0; 1 << 20];
     let times = sizes.map(|most| {
         let (text, sheet) = (text(part, most), wide_sheet(kind, most));
-        assert!(fill(&text, [0, 0, 0], &sheet, &mut output).0 == DONE);
-        let time = time_slow(|| {
-            black_box(fill(black_box(&text), [0, 0, 0], &sheet, &mut output));
-        });
-        time / text.len() as f64
+        time_slow(|| filled(&text, &sheet, &mut output)) / text.len() as f64
     });
     print!("{name:34}");
     times.iter().for_each(|time| print!("{time:10.1}"));
@@ -77,7 +77,10 @@ fn growth(name: &str, part: &str, kind: u8) {
 
 fn main() {
     let mut table = vec![0; 65536 * RECORD];
-    println!("fill, ns a byte       bytes  no values    indexed      named    scanner     memcpy  indexed / scanner");
+    println!("                                        fill, ns a byte                               time / scanner's");
+    println!(
+        "                      bytes  no values    indexed      named    scanner     memcpy    indexed      named"
+    );
     for (name, text) in searches::all() {
         speeds(name, &text, &mut table);
     }

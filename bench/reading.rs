@@ -8,41 +8,35 @@ mod timing;
 use calls::{tighten, tokenize, Answer, DONE, RECORD};
 use searches::texts::{hard, HARD};
 use std::hint::black_box;
-use timing::{time, time_slow};
+use timing::{time_slow, together};
 
 extern "C" {
     fn plain_scan(text: *const u8, length: usize, records: *mut u8, room: usize) -> usize;
 }
 
+fn scan(text: &[u8], records: &mut [u8]) {
+    black_box(unsafe { plain_scan(text.as_ptr(), text.len(), records.as_mut_ptr(), records.len()) });
+}
+
+fn done(answer: Answer) {
+    assert!(black_box(answer).0 == DONE);
+}
+
 fn speeds(name: &str, text: &[u8], table: &mut [u8]) {
     let (number, tokens) = tokenize(text, [0, 0, 0], table);
     assert!(number == DONE);
-    let bytes = text.len() as f64;
-    let mut copy = vec![0; text.len()];
-    let read = time(|| {
-        black_box(tokenize(black_box(text), [0, 0, 0], black_box(table)));
-    });
-    let tightened = time(|| {
-        black_box(tighten(black_box(text), [0, 0, 0], black_box(&mut copy)));
-    });
-    let scanned = time(|| {
-        black_box(unsafe { plain_scan(black_box(text).as_ptr(), text.len(), table.as_mut_ptr(), table.len()) });
-    });
-    let valid = time(|| {
-        black_box(std::str::from_utf8(black_box(text)).is_ok());
-    });
-    let copied = time(|| black_box(&mut copy).copy_from_slice(black_box(text)));
-    println!(
-        "{name:20} {:6} {tokens:7} {:10.2} {:9.2} {:9.2} {:10.3} {:8.3} {:10.1} {:9.1}",
-        text.len(),
-        read / bytes,
-        tightened / bytes,
-        scanned / bytes,
-        valid / bytes,
-        copied / bytes,
-        read / scanned,
-        tightened / scanned,
-    );
+    let mut records = table.to_vec();
+    let (mut output, mut copy) = (vec![0; text.len()], vec![0; text.len()]);
+    let times = together([
+        &mut || done(tokenize(black_box(text), [0, 0, 0], table)),
+        &mut || done(tighten(black_box(text), [0, 0, 0], &mut output)),
+        &mut || scan(black_box(text), &mut records),
+        &mut || assert!(std::str::from_utf8(black_box(text)).is_ok()),
+        &mut || black_box(&mut copy).copy_from_slice(black_box(text)),
+    ]);
+    print!("{name:20} {:6} {tokens:7}", text.len());
+    (0..5).for_each(|call| print!(" {:9.3}", times.time(call) / text.len() as f64));
+    println!("  {:9.1} {:9.1}", times.ratio(0, 2), times.ratio(1, 2));
 }
 
 // Nanoseconds a byte at each size, and the last size's beside the one before: 1 where time grows with the length, 2 where it
@@ -69,10 +63,8 @@ fn growths(title: &str, call: fn(&[u8], [u64; 3], &mut [u8]) -> Answer, table: &
 
 fn main() {
     let mut table = vec![0; 65536 * RECORD];
-    println!("                                         ns a byte                                              time / scanner's");
-    println!(
-        "                      bytes  tokens   tokenize   tighten   scanner  from_utf8   memcpy   tokenize   tighten"
-    );
+    println!("                                      ns a byte                                          time / scanner's");
+    println!("                      bytes  tokens  tokenize   tighten   scanner from_utf8    memcpy   tokenize   tighten");
     for (name, text) in searches::all() {
         speeds(name, &text, &mut table);
     }

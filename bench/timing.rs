@@ -16,13 +16,41 @@ fn batch(call: &mut impl FnMut(), calls: usize) -> f64 {
     start.elapsed().as_nanos() as f64 / calls as f64
 }
 
-// Nanoseconds of one call, the median of 31 batches of at least half a millisecond.
-pub fn time(mut call: impl FnMut()) -> f64 {
+// As many calls as take half a millisecond.
+fn enough(call: &mut impl FnMut()) -> usize {
     let mut calls = 1;
-    while batch(&mut call, calls) * (calls as f64) < 500_000.0 {
+    while batch(call, calls) * (calls as f64) < 500_000.0 {
         calls *= 2;
     }
+    calls
+}
+
+// Nanoseconds of one call, the median of 31 batches of at least half a millisecond.
+pub fn time(mut call: impl FnMut()) -> f64 {
+    let calls = enough(&mut call);
     median((0..BATCHES).map(|_| batch(&mut call, calls)).collect())
+}
+
+// The same for calls that are compared: a batch of each in turn, so that what else the machine does falls on all of them.
+pub struct Together {
+    rounds: Vec<Vec<f64>>,
+}
+
+pub fn together<const N: usize>(mut calls: [&mut dyn FnMut(); N]) -> Together {
+    let sizes: Vec<usize> = calls.iter_mut().map(|call| enough(&mut || call())).collect();
+    let mut round = || calls.iter_mut().zip(&sizes).map(|(call, size)| batch(&mut || call(), *size)).collect();
+    Together { rounds: (0..BATCHES).map(|_| round()).collect() }
+}
+
+impl Together {
+    pub fn time(&self, call: usize) -> f64 {
+        median(self.rounds.iter().map(|round| round[call]).collect())
+    }
+
+    // The median over the rounds of one call's time divided by another's.
+    pub fn ratio(&self, call: usize, other: usize) -> f64 {
+        median(self.rounds.iter().map(|round| round[call] / round[other]).collect())
+    }
 }
 
 // Nanoseconds of one call that may be slow: the median of five, or one where it takes more than 100 milliseconds.
