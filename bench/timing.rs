@@ -53,13 +53,15 @@ impl Together {
     }
 }
 
-// Nanoseconds of one call that may be slow: the median of five, or one where it takes more than 100 milliseconds.
+// Nanoseconds of one call that may be slow: the median of nine, of three from 20 milliseconds on, of one from 300 on.
 pub fn time_slow(mut call: impl FnMut()) -> f64 {
     let first = batch(&mut call, 1);
-    if first > 1e8 {
-        return first;
-    }
-    median((0..5).map(|_| batch(&mut call, 1)).collect())
+    let repeats = match first {
+        ..2e7 => 9,
+        ..3e8 => 3,
+        _ => return first,
+    };
+    median((0..repeats).map(|_| batch(&mut call, 1)).collect())
 }
 
 // The part over and over, up to so many bytes, ending between two characters.

@@ -72,19 +72,23 @@ fn part(case: &mut Case, which: usize) -> &mut Vec<u8> {
     }
 }
 
-// The cases with a run of bytes left out of one part, the longest runs first; then those with a setting of 0.
+// Lengths of runs to leave out, the longest first; the short ones are those of characters.
+fn runs(length: usize) -> impl Iterator<Item = usize> {
+    let halves = std::iter::successors(Some(length), |run| Some(run / 2)).take_while(|run| *run > 4);
+    halves.chain([4, 3, 2, 1].into_iter().filter(move |run| *run <= length))
+}
+
+// The cases with a run of bytes left out of one part; then those with a setting of 0.
 fn smaller(case: &Case) -> Vec<Case> {
     let mut cases = Vec::new();
     for which in 0..3 {
         let length = part(&mut case.clone(), which).len();
-        let mut run = length;
-        while run > 0 {
-            for at in (0..=length - run).step_by((run / 2).max(1)) {
+        for run in runs(length) {
+            for at in (0..=length - run).step_by((run / 4).max(1)) {
                 let mut less = case.clone();
                 part(&mut less, which).drain(at..at + run);
                 cases.push(less);
             }
-            run /= 2;
         }
     }
     for i in 0..3 {
