@@ -62,7 +62,7 @@ fn speeds(name: &str, text: &[u8], table: &mut [u8]) {
     println!(" {:10.1} {:10.1}", times.ratio(1, 3), times.ratio(2, 3));
 }
 
-// Statement and sheet both of so many bytes.
+// Statement and sheet both of so many bytes; the last figure beside the first is about 1 where time grows with the length.
 fn growth(name: &str, part: &str, kind: u8) {
     let sizes = [8192, 16384, 32768, 65536];
     let mut output = vec![0; 1 << 20];
@@ -72,7 +72,7 @@ fn growth(name: &str, part: &str, kind: u8) {
     });
     print!("{name:34}");
     times.iter().for_each(|time| print!("{time:10.1}"));
-    println!("{:8.1}", times[3] / times[2]);
+    println!("{:8.1}", times[3] / times[0]);
 }
 
 fn main() {

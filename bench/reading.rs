@@ -39,13 +39,13 @@ fn speeds(name: &str, text: &[u8], table: &mut [u8]) {
     println!("  {:9.1} {:9.1}", times.ratio(0, 2), times.ratio(1, 2));
 }
 
-// Nanoseconds a byte at each size, and the last size's beside the one before: 1 where time grows with the length, 2 where it
+// Nanoseconds a byte at each size, and the last beside the first: about 1 where time grows with the length, about 8 where it
 // grows with the square.
 fn growth(name: &str, mut call: impl FnMut(usize) -> f64) {
     let times: Vec<f64> = [8192, 16384, 32768, 65536].map(|most| call(most)).to_vec();
     print!("{name:24}");
     times.iter().for_each(|time| print!("{time:10.1}"));
-    println!("{:8.1}", times[3] / times[2]);
+    println!("{:8.1}", times[3] / times[0]);
 }
 
 fn growths(title: &str, call: fn(&[u8], [u64; 3], &mut [u8]) -> Answer, table: &mut [u8]) {
