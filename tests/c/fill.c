@@ -213,7 +213,7 @@ static void fill_longest(void) {
     struct expected done = {VENTPEELER_DONE, 2};
     fill_into(text_of("$2"), settings, most, 2, done, "$2");
     for (size_t i = 0; i < VENTPEELER_STATEMENT_MOST; i++) {
-        text[i] = i % 2 == 0 ? '$' : '1';
+        text[i] = i % 2 == 0 ? '?' : '0';
     }
     struct expected many = {VENTPEELER_OUTPUT_FULL, (uint64_t)32768 * 65531};
     struct bytes all = {text, VENTPEELER_STATEMENT_MOST};
