@@ -1,36 +1,43 @@
-# make          proves the crates, builds the programs and runs one on a sample
+# make          proves the crates, builds the archive for C and the example, and runs the example on a sample
 # make test     runs all tests; the last line counts them
-# make bench    prints speeds beside Rust's
+# make bench    prints speeds beside a plain scanner's and Rust's
 # make tables   prints the character tables anew (needs rustc and Debian's librust-unicode-categories-dev)
 
 build := target/test
+archive := target/staticlib/libventpeeler.a
 rust := rustc --edition 2021 -O
+warnings := -Wall -Wextra -Wpedantic -Werror
+c := cc -std=c99 -O2 $(warnings) -Iinclude
+example := examples/search.c examples/no_filling.c
 categories := /usr/share/cargo/registry/unicode_categories-0.1.1/src/lib.rs
 
 .PHONY: all test bench tables
 
 all:
 	rt check
-	@echo
-	@echo "The tokens of samples/gaps.sql: kind, start, length, alias length, key kind, key a, key b"
-	@target/bin/listing < samples/gaps.sql
+	@$(MAKE) --silent $(build)/search
+	@printf '\nsamples/slab.sql, with values for its placeholders:\n\n'
+	@$(build)/search samples/slab.sql "'L2'" 35 "'2026-11-16'" "'2026-11-17'" 20
 
 test:
 	tools/setup
 	tests/run
 
-bench: $(build)/bench_unicode $(build)/bench_tokenize
+bench: $(build)/bench_unicode $(build)/bench_reading
 	$(build)/bench_unicode
 	@echo
-	$(build)/bench_tokenize
+	$(build)/bench_reading
 
 tables: $(build)/tables
 	$(build)/tables crates/unicode
 	$(build)/tables sweep > crates/sweep/stdout
 	rt fmt
 
-target/staticlib/lib%.a: crates/%/src/lib.rt FORCE
+# an archive is written anew where any file of a crate is younger
+target/staticlib/lib%.a: crates.txt $(shell find crates -type f)
+	@mkdir -p target
 	@rt staticlib $* > target/staticlib.log 2>&1 || { cat target/staticlib.log; exit 1; }
+	@touch $@
 
 $(build)/bench_unicode: bench/unicode.rs bench/timing.rs tests/unicode/unicode.rs target/staticlib/libunicode_exports.a
 	@mkdir -p $(build)
@@ -40,13 +47,46 @@ $(build)/utf8: tests/unicode/utf8.rs tests/unicode/unicode.rs target/staticlib/l
 	@mkdir -p $(build)
 	$(rust) -o $@ $< -L target/staticlib -l static=unicode_exports
 
-$(build)/bench_tokenize: bench/tokenize.rs bench/timing.rs target/staticlib/libventpeeler.a
+$(build)/bench_%: bench/%.rs bench/timing.rs bench/searches.rs bench/scanner.c tests/calls.rs tests/random/texts.rs $(archive)
+	@mkdir -p $(build)
+	$(c) -c -o $(build)/scanner.o bench/scanner.c
+	rm -f $(build)/libscanner.a
+	ar rc $(build)/libscanner.a $(build)/scanner.o
+	$(rust) -o $@ $< -L $(build) -l static=scanner -L target/staticlib -l static=ventpeeler
+
+$(build)/replay_%: tests/%/replay.rs tests/replaying.rs $(archive)
 	@mkdir -p $(build)
 	$(rust) -o $@ $< -L target/staticlib -l static=ventpeeler
 
-$(build)/replay_%: tests/%/replay.rs tests/replaying.rs target/staticlib/libventpeeler.a
+$(build)/search: $(wildcard examples/*) include/ventpeeler.h $(archive)
+	@mkdir -p $(build)
+	$(c) -o $@ $(example) $(archive)
+
+c_parts := tests/c/checks.h tests/c/lent.h include/ventpeeler.h $(archive)
+
+$(build)/c_%: tests/c/%.c $(c_parts)
+	@mkdir -p $(build)
+	$(c) -o $@ $< $(archive)
+
+$(build)/sanitized_%: tests/c/%.c $(c_parts)
+	@mkdir -p $(build)
+	$(c) -g -fsanitize=address,undefined -fno-sanitize-recover=all -o $@ $< $(archive)
+
+$(build)/cxx_%: tests/c/%.c $(c_parts)
+	@mkdir -p $(build)
+	c++ -std=c++11 -O2 $(warnings) -Iinclude -o $@ -x c++ $< -x none $(archive)
+
+$(build)/random_%: tests/random/%.rs $(wildcard tests/random/*.rs) tests/calls.rs $(archive)
 	@mkdir -p $(build)
 	$(rust) -o $@ $< -L target/staticlib -l static=ventpeeler
+
+$(build)/stack_%: tests/stack/%.rs $(wildcard tests/stack/*) tests/random/texts.rs include/ventpeeler.h $(archive)
+	@mkdir -p $(build)
+	$(c) -c -o $(build)/painted.o tests/stack/painted.c
+	$(c) -c -o $(build)/painted_fill.o tests/stack/painted_fill.c
+	rm -f $(build)/libpainted.a
+	ar rc $(build)/libpainted.a $(build)/painted.o $(build)/painted_fill.o
+	$(rust) -o $@ $< -L $(build) -l static=painted -L target/staticlib -l static=ventpeeler
 
 # unicode_categories is older than its compiler, which warns of that
 $(build)/libunicode_categories.rlib: $(categories)
@@ -55,5 +95,3 @@ $(build)/libunicode_categories.rlib: $(categories)
 
 $(build)/tables: tools/tables.rs $(build)/libunicode_categories.rlib
 	$(rust) -o $@ $< --extern unicode_categories=$(build)/libunicode_categories.rlib
-
-FORCE:
