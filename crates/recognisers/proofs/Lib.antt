@@ -1,5 +1,6 @@
 -- Laws that the proofs cite.
 pub mod Counting
+pub mod Choosing
 pub mod Spelling
 pub mod Inside
 pub mod Cases

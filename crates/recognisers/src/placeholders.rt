@@ -10,7 +10,6 @@ use crate::numbers::marked_digits;
 use crate::scan::at_least;
 use crate::scan::exactly;
 use crate::scan::first_of;
-use crate::scan::first_recognised;
 use crate::scan::n_more;
 use crate::scan::pair_stands_at;
 use crate::scan::stands_at;
@@ -23,6 +22,7 @@ ghost use mathlib.Core.Bool.{true, false};
 ghost use Prim.Native.Nat.{_-_, _≤_};
 ghost use lib.ListN.{length};
 ghost use Rattle.recognisers.specs.Taking.{one, literal, contains};
+ghost use Rattle.recognisers.specs.Pieces.{alt};
 ghost use Rattle.recognisers.specs.Strings.{placeholderStringPart};
 ghost use Rattle.recognisers.specs.Placeholder.{numberOf, indexed, indexedKey, indexedPart, getIndexedPlaceholderToken, placeholderName, identPart, getIdentNamedPlaceholderToken, throughBrace, bracedText, bracedPart, getBracedNamedPlaceholderToken, hasEscape, stringKey, stringNamedPart, getStringNamedPlaceholderToken, getPlaceholderToken};
 
@@ -268,28 +268,59 @@ pub fn get_string_named_placeholder_token(rest: &[u8], dialect: Dialect) -> Reco
     }
 }
 
+// Each alternative is tried only where those before it recognise nothing: `$1$1..` would be one long name.
+fn index_or_braces(rest: &[u8]) -> Recognised
+    ensures { λ r. ⌜ r ≡ alt (getIndexedPlaceholderToken (now (rest .entry))) (getBracedNamedPlaceholderToken (now (rest .entry))) ⌝ }
+{
+    match get_indexed_placeholder_token(rest) {
+        Recognised::Token(piece) => Recognised::Token(piece),
+        Recognised::Nothing => get_braced_named_placeholder_token(rest),
+    }
+}
+
+fn string_then_index(rest: &[u8], dialect: Dialect) -> Recognised
+    ensures { λ r. ⌜ r ≡ alt (getStringNamedPlaceholderToken dialect (now (rest .entry))) (alt (getIndexedPlaceholderToken (now (rest .entry))) (getBracedNamedPlaceholderToken (now (rest .entry)))) ⌝ }
+{
+    match get_string_named_placeholder_token(rest, dialect) {
+        Recognised::Token(piece) => Recognised::Token(piece),
+        Recognised::Nothing => index_or_braces(rest),
+    }
+}
+
 fn names_first(rest: &[u8], dialect: Dialect) -> Recognised
     ensures { λ r. ⌜ r ≡ getPlaceholderToken true dialect (now (rest .entry)) ⌝ }
 {
-    let ident = get_ident_named_placeholder_token(rest);
-    let string = get_string_named_placeholder_token(rest, dialect);
-    let others = first_recognised(
-        get_indexed_placeholder_token(rest),
-        get_braced_named_placeholder_token(rest),
-    );
-    first_recognised(ident, first_recognised(string, others))
+    match get_ident_named_placeholder_token(rest) {
+        Recognised::Token(piece) => Recognised::Token(piece),
+        Recognised::Nothing => string_then_index(rest, dialect),
+    }
+}
+
+fn string_or_braces(rest: &[u8], dialect: Dialect) -> Recognised
+    ensures { λ r. ⌜ r ≡ alt (getStringNamedPlaceholderToken dialect (now (rest .entry))) (getBracedNamedPlaceholderToken (now (rest .entry))) ⌝ }
+{
+    match get_string_named_placeholder_token(rest, dialect) {
+        Recognised::Token(piece) => Recognised::Token(piece),
+        Recognised::Nothing => get_braced_named_placeholder_token(rest),
+    }
+}
+
+fn ident_then_string(rest: &[u8], dialect: Dialect) -> Recognised
+    ensures { λ r. ⌜ r ≡ alt (getIdentNamedPlaceholderToken (now (rest .entry))) (alt (getStringNamedPlaceholderToken dialect (now (rest .entry))) (getBracedNamedPlaceholderToken (now (rest .entry)))) ⌝ }
+{
+    match get_ident_named_placeholder_token(rest) {
+        Recognised::Token(piece) => Recognised::Token(piece),
+        Recognised::Nothing => string_or_braces(rest, dialect),
+    }
 }
 
 fn places_first(rest: &[u8], dialect: Dialect) -> Recognised
     ensures { λ r. ⌜ r ≡ getPlaceholderToken false dialect (now (rest .entry)) ⌝ }
 {
-    let index = get_indexed_placeholder_token(rest);
-    let ident = get_ident_named_placeholder_token(rest);
-    let others = first_recognised(
-        get_string_named_placeholder_token(rest, dialect),
-        get_braced_named_placeholder_token(rest),
-    );
-    first_recognised(index, first_recognised(ident, others))
+    match get_indexed_placeholder_token(rest) {
+        Recognised::Token(piece) => Recognised::Token(piece),
+        Recognised::Nothing => ident_then_string(rest, dialect),
+    }
 }
 
 pub fn get_placeholder_token(rest: &[u8], named: bool, dialect: Dialect) -> Recognised

@@ -1,5 +1,4 @@
 -- Laws that the proofs cite, and theorems on the definitions.
-pub mod Choosing
 pub mod Placing
 pub mod Sizing
 pub mod Walking

@@ -1,0 +1,33 @@
+use borrow.Author.Needs.{needs}
+use Rattle.recognisers.proofs.Choosing.{first-recognises, rest-recognises}
+use Rattle.recognisers.proofs.placeholders.index_or_braces.Statement.{statement}
+use Rattle.recognisers.proofs.placeholders.index_or_braces.Tie as tie
+
+get-indexed-placeholder-token-requires : tie.Need-get-indexed-placeholder-token-requires
+get-indexed-placeholder-token-requires c κs = search needs
+
+enum-known-piece : tie.Need-enum-known-piece
+enum-known-piece c = search needs
+
+enum-told : tie.Need-enum-told
+enum-told c = search needs
+
+get-braced-named-placeholder-token-requires : tie.Need-get-braced-named-placeholder-token-requires
+get-braced-named-placeholder-token-requires c κs = search needs
+
+returns : tie.Need-returns
+returns c = search first-recognises
+
+returns-2 : tie.Need-returns-2
+returns-2 c = search rest-recognises
+
+pub index-or-braces-spec : {M : Type 1} → statement M
+index-or-braces-spec =
+    tie.close
+    (tie.spec
+    get-indexed-placeholder-token-requires
+    enum-known-piece
+    enum-told
+    get-braced-named-placeholder-token-requires
+    returns
+    returns-2)
