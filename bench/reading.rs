@@ -63,8 +63,12 @@ fn growths(title: &str, call: fn(&[u8], [u64; 3], &mut [u8]) -> Answer, table: &
 
 fn main() {
     let mut table = vec![0; 65536 * RECORD];
-    println!("                                      ns a byte                                          time / scanner's");
-    println!("                      bytes  tokens  tokenize   tighten   scanner from_utf8    memcpy   tokenize   tighten");
+    println!(
+        "                                      ns a byte                                          time / scanner's"
+    );
+    println!(
+        "                      bytes  tokens  tokenize   tighten   scanner from_utf8    memcpy   tokenize   tighten"
+    );
     for (name, text) in searches::all() {
         speeds(name, &text, &mut table);
     }

@@ -1,5 +1,5 @@
-// Properties of tokenize and tighten that need no second reading, over texts at random: `random_reading --texts N --seed N`. The
-// wrong properties at the end show that a false one is found out.
+// Properties of tokenize and tighten that need no second reading, over texts at random: `random_reading --texts N --seed N`.
+// The wrong properties at the end show that a false one is found out.
 #[path = "../calls.rs"]
 mod calls;
 mod gaps;
