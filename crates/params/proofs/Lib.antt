@@ -1,0 +1,3 @@
+-- Laws that the proofs cite, and theorems on the definitions.
+pub mod Contents
+pub mod Sheets
