@@ -16,7 +16,7 @@ use Rattle.params.specs.declared.Place.{Place}
 use Rattle.params.specs.declared.QueryParams.{QueryParams}
 use Rattle.params.specs.declared.QueryParams.the-variants as Q
 use Rattle.params.specs.Sheet.{paramsOf, countOf, lengthsAt, placeOf, nameOf}
-use Rattle.params.specs.Keys.{hasName, hasNoIndex}
+use Rattle.params.specs.Keys.{hasKey, hasName, hasNoIndex}
 
 -- ---- which entry is taken: its number, or the count or more where none is
 
@@ -29,12 +29,8 @@ unfoldable pub withName : List ℕ → List ℕ → ℕ
 withName sheet text = firstNamed sheet text 0 (countOf sheet)
 
 -- an index has the empty text as its name
-abbrev pub byName : List ℕ → List ℕ → Key → ℕ
-byName s sheet K.None = countOf sheet
-byName s sheet (K.Named start len) = withName sheet (keyText s (K.Named start len))
-byName s sheet (K.Escaped start len) = withName sheet (keyText s (K.Escaped start len))
-byName s sheet (K.ZeroIndexed n) = withName sheet (keyText s (K.ZeroIndexed n))
-byName s sheet (K.OneIndexed n) = withName sheet (keyText s (K.OneIndexed n))
+unfoldable pub byName : List ℕ → List ℕ → Key → ℕ
+byName s sheet key = cond (hasKey key) (withName sheet (keyText s key)) (countOf sheet)
 
 -- by the index, else the next in turn; a one-indexed zero counts as past the end
 abbrev pub byIndex : List ℕ → ℕ → Key → ℕ

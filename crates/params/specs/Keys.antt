@@ -12,6 +12,13 @@ use Rattle.tokenizer.specs.KeyText.{keyText}
 unfoldable pub hasName : List ℕ → Key → Bool
 hasName s key = ltb 0 (length (keyText s key))
 
+abbrev pub hasKey : Key → Bool
+hasKey None = false
+hasKey (Named start len) = true
+hasKey (Escaped start len) = true
+hasKey (ZeroIndexed n) = true
+hasKey (OneIndexed n) = true
+
 -- `key.indexed()` is none
 abbrev pub hasNoIndex : Key → Bool
 hasNoIndex None = true

@@ -1,4 +1,7 @@
 // src/params.rs: the value sheet, `Params::get` over it, `fill` and `lookup`.
+mod getting;
+mod keys;
+mod places;
 mod sheet;
 
 pub use sheet::is_sheet;
