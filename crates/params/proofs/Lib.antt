@@ -4,3 +4,7 @@ pub mod Sheets
 pub mod KeyTexts
 pub mod Standing
 pub mod Gets
+pub mod Reading
+pub mod Passing
+pub mod Handing
+pub mod Answering

@@ -1,9 +1,13 @@
 // src/params.rs: the value sheet, `Params::get` over it, `fill` and `lookup`.
+mod filling;
 mod getting;
 mod keys;
+mod parts;
 mod places;
 mod sheet;
+mod text;
 
+pub use filling::fill;
 pub use sheet::is_sheet;
 
 // What a sheet holds.
