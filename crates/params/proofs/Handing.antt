@@ -13,7 +13,7 @@ use Rattle.params.specs.declared.Part.{Part}
 use Rattle.params.specs.declared.Part.the-variants as P
 use Rattle.tokenizer.specs.declared.Token.{Token}
 use Rattle.params.specs.Sheet.{isSheet}
-use Rattle.params.specs.Filled.{standsFor, partBytes, partLength, PartInside}
+use Rattle.params.specs.Filled.{standsFor, partBytes, partLength, partStart, PartInside}
 use Rattle.params.proofs.Reading.{stands-inside}
 
 module _ (start len : ℕ) where
@@ -27,6 +27,9 @@ module _ (start len : ℕ) where
     module _ (e : p ≡ P.Statement start len) where
       pub statement-bytes : take (start + len - start) (drop start s) ≡ partBytes s sheet p
       statement-bytes = rw (back, e)
+
+      pub statement-start : (x y : ℕ × ℕ) → _≡_ {A = ℕ × ℕ} (x .0, start + x .1) (partStart x y p)
+      statement-start x y = rw e
 
       pub statement-put : (output after : List ℕ) (at : ℕ) → after ≡ sets output at (take (start + len - start) (drop start s)) → after ≡ sets output at (partBytes s sheet p)
       statement-put output after at f = f ∙ ap (sets output at) statement-bytes
@@ -44,6 +47,9 @@ module _ (start len : ℕ) where
     module _ (e : p ≡ P.Sheet start len) where
       pub sheet-bytes : take (start + len - start) (drop start sheet) ≡ partBytes s sheet p
       sheet-bytes = rw (back, e)
+
+      pub sheet-start : (x y : ℕ × ℕ) → _≡_ {A = ℕ × ℕ} (y .0, start + y .1) (partStart x y p)
+      sheet-start x y = rw e
 
       pub sheet-put : (output after : List ℕ) (at : ℕ) → after ≡ sets output at (take (start + len - start) (drop start sheet)) → after ≡ sets output at (partBytes s sheet p)
       sheet-put output after at f = f ∙ ap (sets output at) sheet-bytes

@@ -8,3 +8,4 @@ pub mod Reading
 pub mod Passing
 pub mod Handing
 pub mod Answering
+pub mod Lookups

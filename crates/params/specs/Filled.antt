@@ -31,6 +31,11 @@ abbrev pub partLength : Part → ℕ
 partLength (Statement start len) = len
 partLength (Sheet start len) = len
 
+-- where a part starts, in memory, for a statement and a sheet that start at these: a block of memory and a byte of it
+abbrev pub partStart : ℕ × ℕ → ℕ × ℕ → Part → ℕ × ℕ
+partStart s sheet (Statement start len) = (s .0, start + s .1)
+partStart s sheet (Sheet start len) = (sheet .0, start + sheet .1)
+
 -- a part lies inside what it is a part of
 abbrev pub PartInside : List ℕ → List ℕ → Part → Type 0
 PartInside s sheet (Statement start len) = start + len ≤ length s

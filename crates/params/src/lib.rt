@@ -2,12 +2,14 @@
 mod filling;
 mod getting;
 mod keys;
+mod looking;
 mod parts;
 mod places;
 mod sheet;
 mod text;
 
 pub use filling::fill;
+pub use looking::lookup;
 pub use sheet::is_sheet;
 
 // What a sheet holds.

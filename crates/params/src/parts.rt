@@ -5,7 +5,7 @@ ghost use mathlib.Core.Path.{_≡_};
 ghost use Prim.Native.Nat.{_+_, _≤_};
 ghost use lib.ListN.{length};
 ghost use lib.Seq.{sets};
-ghost use Rattle.params.specs.Filled.{partBytes, partLength, PartInside};
+ghost use Rattle.params.specs.Filled.{partBytes, partLength, partStart, PartInside};
 
 pub fn part_length(part: Part) -> usize
     ensures { λ r. ⌜ r ≡ partLength part ⌝ }
@@ -33,10 +33,11 @@ pub fn put_part(statement: &[u8], sheet: &[u8], part: Part, output: &mut [u8], a
     }
 }
 
-// The part itself, of one of two sources.
+// The part itself, of one of two sources: which one, and where in it, is told by where the part starts in memory.
 pub fn part_of<'a>(statement: &'a [u8], sheet: &'a [u8], part: Part) -> &'a [u8]
     requires { ⌜ PartInside (now statement) (now sheet) part ⌝ }
     ensures { λ r. ⌜ now r ≡ partBytes (now (statement .entry)) (now (sheet .entry)) part ⌝ }
+    ensures { λ r. ⌜ r .ptr ≡ partStart (statement .entry .ptr) (sheet .entry .ptr) part ⌝ }
 {
     match part {
         Part::Statement { start, len } => {

@@ -1,5 +1,5 @@
 use borrow.Author.Needs.{needs}
-use Rattle.params.proofs.Handing.{statement-fits, statement-end, statement-bytes, sheet-fits, sheet-end, sheet-bytes}
+use Rattle.params.proofs.Handing.{statement-fits, statement-end, statement-bytes, statement-start, sheet-fits, sheet-end, sheet-bytes, sheet-start}
 use Rattle.params.proofs.parts.part_of.Statement.{statement}
 use Rattle.params.proofs.parts.part_of.Tie as tie
 
@@ -34,10 +34,10 @@ part-result-end-2 : tie.Need-part-result-end-2
 part-result-end-2 c = search sheet-end
 
 returns : tie.Need-returns
-returns c = search statement-bytes
+returns c = (search statement-bytes, search statement-start)
 
 returns-2 : tie.Need-returns-2
-returns-2 c = search sheet-bytes
+returns-2 c = (search sheet-bytes, search sheet-start)
 
 pub part-of-spec : {M : Type 1} → statement M
 part-of-spec =
