@@ -1,7 +1,8 @@
 // Reads a value sheet and a statement from standard input, makes the default call (Generic, joins 0, named placeholders 0)
 // and prints the filled text and nothing else; or `refused` and the number. The input is a sheet's length in 4 bytes, the
 // lowest first, then so many bytes of sheet, then the statement up to the end. Where there are fewer bytes than that length
-// says, all of them are the sheet and the statement is empty. The output has 1 MiB: a longer text is `refused 6`.
+// says, all of them are the sheet and the statement is empty. The output has 131,072 bytes: a longer
+// text is `refused 6`.
 use libc::STDIN_FILENO;
 use libc::STDOUT_FILENO;
 use params::fill;
@@ -62,10 +63,10 @@ fn input_space() -> [u8; 131078]
     [0; 131078]
 }
 
-fn output_space() -> [u8; 1048576]
-    ensures { λ r. ⌜ 1048576 ≡ length r ⌝ }
+fn output_space() -> [u8; 131072]
+    ensures { λ r. ⌜ 131072 ≡ length r ⌝ }
 {
-    [0; 1048576]
+    [0; 131072]
 }
 
 fn main() {

@@ -8,16 +8,14 @@ use mathlib.Core.List.{List}
 use borrow.Author.Tests.{ltb-false}
 use lib.Dec.{ltb}
 use lib.ListN.{length}
-use Rattle.unicode.specs.declared.IllFormed.{IllFormed}
-use Rattle.unicode.specs.declared.IllFormed.the-variants.{At, Nowhere}
-use Rattle.unicode.specs.Utf8.{firstIllFormed}
 use Rattle.tokenizer.specs.declared.Answer.{Answer}
 use Rattle.tokenizer.specs.declared.Answer.the-variants as A
 use Rattle.tokenizer.specs.declared.Checked.{Checked}
 use Rattle.tokenizer.specs.declared.Checked.the-variants.{Accepted, Refused}
 use Rattle.tokenizer.specs.declared.Settings.{Settings}
-use Rattle.tokenizer.specs.Answers.{isSetting, settingsOf, longest, whenUtf8, checkedText, checked}
+use Rattle.tokenizer.specs.Answers.{answerNumber, isSetting, settingsOf, longest, checkedText, checked}
 use Rattle.tight.specs.Answers.{textAnswer, textAfter}
+use Rattle.tight.proofs.Answering.{Told, refusal-told, text-inside, text-long}
 use Rattle.params.specs.Sheet.{isSheet}
 use Rattle.params.specs.Filled.{filled}
 use Rattle.params.specs.Answers.{withSheet, checkedWith, fillAnswer, fillOutput}
@@ -101,3 +99,42 @@ module _ (s : List ℕ) (dialect joins named : ℕ) (sheet output : List ℕ) (r
     pub accepted-output : (after : List ℕ) → after ≡ textAfter (filled settings s sheet) output → after ≡ fillOutput s dialect joins named sheet output
     unfolding fillOutput
     accepted-output after g = g ∙ rw (← e, k)
+
+-- ---- under 0 the text lies inside the output
+
+sheet-told : (sheet : List ℕ) (c : Checked) → Told c → Told (withSheet sheet c)
+sheet-told sheet (Accepted settings) h = go (isSheet sheet)
+  where
+    go : (b : Bool) → Told (cond b (Accepted settings) (Refused A.Sheet))
+    go true = tt
+    go false = omega arith
+sheet-told sheet (Refused answer) h = h
+
+module _ (s : List ℕ) (dialect joins named : ℕ) (sheet : List ℕ) where
+  with-told : Told (checkedWith s dialect joins named sheet)
+  unfolding checkedWith
+  with-told = sheet-told sheet (checked dialect joins named s) (refusal-told dialect joins named s)
+
+  done-inside : (room n : ℕ) → fillAnswer s dialect joins named sheet room ≡ A.Done n → n ≤ room
+  unfolding fillAnswer
+  done-inside room n e = go (checkedWith s dialect joins named sheet) refl with-told
+    where
+      go : (c : Checked) → checkedWith s dialect joins named sheet ≡ c → Told c → n ≤ room
+      go (Accepted settings) k h = text-inside (filled settings s sheet) room n (sym (rw k) ∙ e)
+      go (Refused answer) k h =
+          let g : answer ≡ A.Done n = sym (rw k) ∙ e in
+          let i : answerNumber answer ≡ 0 = ap answerNumber g in
+          absurd (let z : ⊥ = omega (arith, h, i) in z)
+
+  output-long : (output : List ℕ) → length (fillOutput s dialect joins named sheet output) ≡ length output
+  unfolding fillOutput
+  output-long output = go (checkedWith s dialect joins named sheet) refl
+    where
+      go : (c : Checked) → checkedWith s dialect joins named sheet ≡ c → length (fillOutput s dialect joins named sheet output) ≡ length output
+      go (Accepted settings) k = rw k (text-long (filled settings s sheet) output)
+      go (Refused answer) k = rw k
+
+  -- as a caller has it
+  pub written-inside : (output after : List ℕ) (r : Answer) (n : ℕ)
+      → r ≡ fillAnswer s dialect joins named sheet (length output) → after ≡ fillOutput s dialect joins named sheet output → r ≡ A.Done n → n ≤ length after
+  written-inside output after r n e f g = rw (f, output-long) (done-inside (length output) n (sym e ∙ g))

@@ -63,11 +63,11 @@ module _ (dialect joins named : ℕ) (s output : List ℕ) (r : Checked) (e : r 
 -- ---- under 0 the text lies inside the output
 
 -- a refusal has a number of its own
-abbrev Told : Checked → Type 0
+abbrev pub Told : Checked → Type 0
 Told (Accepted settings) = Unit {0}
 Told (Refused answer) = 0 < answerNumber answer
 
-refusal-told : (dialect joins named : ℕ) (s : List ℕ) → Told (checked dialect joins named s)
+pub refusal-told : (dialect joins named : ℕ) (s : List ℕ) → Told (checked dialect joins named s)
 unfolding checked checkedText
 refusal-told dialect joins named s = go (isSetting dialect joins named) (ltb longest (length s)) (firstIllFormed s) refl refl refl
   where
@@ -77,7 +77,7 @@ refusal-told dialect joins named s = go (isSetting dialect joins named) (ltb lon
     go true false (At place) e f g = rw (e, f, g) (omega arith)
     go true false Nowhere e f g = rw (e, f, g) tt
 
-text-inside : (text : List ℕ) (room n : ℕ) → textAnswer text room ≡ Done n → n ≤ room
+pub text-inside : (text : List ℕ) (room n : ℕ) → textAnswer text room ≡ Done n → n ≤ room
 unfolding textAnswer
 text-inside text room n e = go (ltb room (length text)) refl
   where
@@ -96,7 +96,7 @@ done-inside dialect joins named s room n e = go (checked dialect joins named s) 
         let i : answerNumber answer ≡ 0 = ap answerNumber g in
         absurd (let z : ⊥ = omega (arith, h, i) in z)
 
-text-long : (text output : List ℕ) → length (textAfter text output) ≡ length output
+pub text-long : (text output : List ℕ) → length (textAfter text output) ≡ length output
 unfolding textAfter
 text-long text output = go (ltb (length output) (length text)) refl
   where

@@ -1,84 +1,63 @@
 use borrow.Author.Needs.{needs}
+use mathlib.Core.Path.{sym}
+use lib.Seq.{length-take-le}
 use Rattle.filling.proofs.print_input.Statement.{statement}
 use Rattle.filling.proofs.print_input.Tie as tie
-use Rattle.filling.proofs.print_input.Reads as reads
-use Rattle.filling.proofs.print_input.Lts as lts
-use Rattle.filling.proofs.le32_at_start.Reads as le32-at-start-reads
-use Rattle.filling.proofs.print_filled.Reads as print-filled-reads
 
--- src/main.rt:46:22
 slice-aggregate-print-filled : tie.Need-slice-aggregate-print-filled
 slice-aggregate-print-filled c = search needs
 
--- src/main.rt:46:9
 print-filled-requires : tie.Need-print-filled-requires
 print-filled-requires c κs = search needs
 
--- src/main.rt:47:9
 same-length : tie.Need-same-length
 same-length c = search needs
 
--- src/main.rt:47:9
 returns : tie.Need-returns
 returns c = search needs
 
--- src/main.rt:49:9
 le32-at-start-requires : tie.Need-le32-at-start-requires
 le32-at-start-requires c κs = search needs
 
--- src/main.rt:50:16
 sub-rest : tie.Need-sub-rest
 sub-rest c = search needs
 
--- src/main.rt:50:16
 part-rest-start : tie.Need-part-rest-start
 part-rest-start c = search needs
 
--- src/main.rt:50:16
 part-rest-end : tie.Need-part-rest-end
 part-rest-end c = search needs
 
--- src/main.rt:52:22
 slice-aggregate-print-filled-2 : tie.Need-slice-aggregate-print-filled-2
 slice-aggregate-print-filled-2 c = search needs
 
--- src/main.rt:52:9
 print-filled-requires-2 : tie.Need-print-filled-requires-2
 print-filled-requires-2 c κs = search needs
 
--- src/main.rt:53:9
 same-length-2 : tie.Need-same-length-2
 same-length-2 c = search needs
 
--- src/main.rt:53:9
 returns-2 : tie.Need-returns-2
 returns-2 c = search needs
 
--- src/main.rt:55:18
 sub-print-filled : tie.Need-sub-print-filled
 sub-print-filled c = search needs
 
--- src/main.rt:55:18
 part-print-filled-start : tie.Need-part-print-filled-start
 part-print-filled-start c = search needs
 
--- src/main.rt:55:18
 part-print-filled-end : tie.Need-part-print-filled-end
 part-print-filled-end c = search needs
 
--- src/main.rt:55:32
 slice-aggregate-print-filled-3 : tie.Need-slice-aggregate-print-filled-3
-slice-aggregate-print-filled-3 c = search needs
+slice-aggregate-print-filled-3 c = sym (length-take-le _ _ (search needs))
 
--- src/main.rt:55:5
 print-filled-requires-3 : tie.Need-print-filled-requires-3
 print-filled-requires-3 c κs = search needs
 
--- src/main.rt:44:1
 same-length-3 : tie.Need-same-length-3
 same-length-3 c = search needs
 
--- src/main.rt:44:1
 returns-3 : tie.Need-returns-3
 returns-3 c = search needs
 
