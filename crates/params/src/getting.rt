@@ -4,7 +4,6 @@ use crate::Part;
 use crate::QueryParams;
 use crate::keys::has_key;
 use crate::keys::has_name;
-use crate::keys::has_no_index;
 use crate::places::own_text;
 use crate::places::params_next;
 use crate::places::place_named;
@@ -35,6 +34,18 @@ fn get_named(statement: &[u8], sheet: &[u8], token: Token) -> Part
         return value_at(sheet, place_named(statement, key, sheet), token);
     }
     own_text(token)
+}
+
+fn has_no_index(key: Key) -> bool
+    ensures { λ r. ⌜ r ≡ hasNoIndex key ⌝ }
+{
+    match key {
+        Key::None => true,
+        Key::Named { start: _, len: _ } => true,
+        Key::Escaped { start: _, len: _ } => true,
+        Key::ZeroIndexed(_) => false,
+        Key::OneIndexed(_) => false,
+    }
 }
 
 // The number of the entry that a key without a name takes; a one-indexed zero counts as past the end.

@@ -10,7 +10,7 @@ ghost use Rattle.recognisers.specs.Text.{byte};
 ghost use Rattle.recognisers.specs.Taking.{startsWith};
 ghost use Rattle.reserved.specs.Reserved.{same};
 ghost use Rattle.tokenizer.specs.KeyText.{unescaped, keyText};
-ghost use Rattle.params.specs.Keys.{hasKey, hasName, hasNoIndex, keyEnd};
+ghost use Rattle.params.specs.Keys.{hasKey, hasName, keyEnd};
 
 // A backslash directly before the quote.
 fn is_escape(text: &[u8], i: usize, quote: u8) -> bool
@@ -110,17 +110,5 @@ pub fn has_key(key: Key) -> bool
         Key::Escaped { start: _, len: _ } => true,
         Key::ZeroIndexed(_) => true,
         Key::OneIndexed(_) => true,
-    }
-}
-
-pub fn has_no_index(key: Key) -> bool
-    ensures { λ r. ⌜ r ≡ hasNoIndex key ⌝ }
-{
-    match key {
-        Key::None => true,
-        Key::Named { start: _, len: _ } => true,
-        Key::Escaped { start: _, len: _ } => true,
-        Key::ZeroIndexed(_) => false,
-        Key::OneIndexed(_) => false,
     }
 }
