@@ -9,3 +9,5 @@ pub mod Passing
 pub mod Handing
 pub mod Answering
 pub mod Lookups
+pub mod FillIsLookups
+pub mod UntakenValues
