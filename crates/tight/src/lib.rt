@@ -4,6 +4,7 @@ mod parts;
 mod text;
 mod tightening;
 
+pub use parts::put_bytes;
 pub use tightening::tighten;
 
 // What a gap becomes.

@@ -36,7 +36,7 @@ fn put_gap(gap: Gap, output: &mut [u8], at: usize)
     }
 }
 
-fn put_bytes(bytes: &[u8], output: &mut [u8], at: usize)
+pub fn put_bytes(bytes: &[u8], output: &mut [u8], at: usize)
     requires { ⌜ at + length (now bytes) ≤ length (now output) ⌝ }
     ensures { λ _. ⌜ now (output .exit) ≡ sets (now (output .entry)) at (now (bytes .entry)) ⌝ }
 {

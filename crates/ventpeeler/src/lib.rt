@@ -1,4 +1,5 @@
 // The boundary for C.
+use params::fill;
 use tight::tighten;
 use tokenizer::Answer;
 use tokenizer::answer_number;
@@ -8,6 +9,7 @@ ghost use Prim.Native.Nat.{min, _≤_};
 ghost use lib.ListN.{length};
 ghost use Rattle.tokenizer.specs.Answers.{answerDetail, tokenizeAnswer, tokenizeRecords};
 ghost use Rattle.tight.specs.Answers.{tightenAnswer, tightenOutput};
+ghost use Rattle.params.specs.Answers.{fillAnswer, fillOutput};
 ghost use Rattle.ventpeeler.specs.Packed.{packed};
 
 fn answer_detail(answer: Answer) -> u64
@@ -69,5 +71,21 @@ pub extern "C" fn ventpeeler_tighten(
     ensures { λ _. ⌜ now (output .exit) ≡ tightenOutput (now (statement .entry)) dialect joins named (now (output .entry)) ⌝ }
 {
     let answer = tighten(statement, dialect, joins, named, output);
+    pack(answer)
+}
+
+#[no_mangle]
+pub extern "C" fn ventpeeler_fill(
+    statement: &[u8],
+    dialect: u64,
+    joins: u64,
+    named: u64,
+    sheet: &[u8],
+    output: &mut [u8],
+) -> u64
+    ensures { λ r. ⌜ r ≡ packed (fillAnswer (now (statement .entry)) dialect joins named (now (sheet .entry)) (length (now (output .entry)))) ⌝ }
+    ensures { λ _. ⌜ now (output .exit) ≡ fillOutput (now (statement .entry)) dialect joins named (now (sheet .entry)) (now (output .entry)) ⌝ }
+{
+    let answer = fill(statement, dialect, joins, named, sheet, output);
     pack(answer)
 }

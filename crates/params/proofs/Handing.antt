@@ -1,0 +1,83 @@
+-- A part handed back, or put into an output.
+-- Assumes nothing.
+use Prim.Native.Nat.{ℕ, _+_, _-_, _^_, _≤_, _<_}
+use native.Mathlib.Omega.{arith}
+use mathlib.Core.Path.{_≡_, refl, sym, ap, _∙_}
+use mathlib.Core.Bool.{true}
+use mathlib.Core.List.{List}
+use lib.ListN.{length, take, drop, length-drop}
+use lib.Seq.{sets, length-take-le}
+use mir.Syntax.{w64}
+use mir.Val.{Fits}
+use Rattle.params.specs.declared.Part.{Part}
+use Rattle.params.specs.declared.Part.the-variants as P
+use Rattle.tokenizer.specs.declared.Token.{Token}
+use Rattle.params.specs.Sheet.{isSheet}
+use Rattle.params.specs.Filled.{standsFor, partBytes, partLength, partStart, PartInside}
+use Rattle.params.proofs.Reading.{stands-inside}
+
+module _ (start len : ℕ) where
+  back : start + len - start ≡ len
+  back = omega arith
+
+  long : (source : List ℕ) → start + len ≤ length source → length (take (start + len - start) (drop start source)) ≡ len
+  long source h = rw back (length-take-le len (drop start source) (rw length-drop (omega arith)))
+
+  module _ (s sheet : List ℕ) (p : Part) where
+    module _ (e : p ≡ P.Statement start len) where
+      pub statement-bytes : take (start + len - start) (drop start s) ≡ partBytes s sheet p
+      statement-bytes = rw (back, e)
+
+      pub statement-start : (x y : ℕ × ℕ) → _≡_ {A = ℕ × ℕ} (x .0, start + x .1) (partStart x y p)
+      statement-start x y = rw e
+
+      pub statement-put : (output after : List ℕ) (at : ℕ) → after ≡ sets output at (take (start + len - start) (drop start s)) → after ≡ sets output at (partBytes s sheet p)
+      statement-put output after at f = f ∙ ap (sets output at) statement-bytes
+
+      module _ (h : PartInside s sheet p) where
+        pub statement-end : start + len ≤ length s
+        statement-end = rw e at h
+
+        pub statement-fits : length s < 2 ^ 64 → Fits w64 (start + len)
+        statement-fits k = record { fits = omega (arith, statement-end) }
+
+        pub statement-room : (output : List ℕ) (at : ℕ) → at + partLength p ≤ length output → at + length (take (start + len - start) (drop start s)) ≤ length output
+        statement-room output at k = let l : at + len ≤ length output = rw e at k in rw (long s statement-end) l
+
+    module _ (e : p ≡ P.Sheet start len) where
+      pub sheet-bytes : take (start + len - start) (drop start sheet) ≡ partBytes s sheet p
+      sheet-bytes = rw (back, e)
+
+      pub sheet-start : (x y : ℕ × ℕ) → _≡_ {A = ℕ × ℕ} (y .0, start + y .1) (partStart x y p)
+      sheet-start x y = rw e
+
+      pub sheet-put : (output after : List ℕ) (at : ℕ) → after ≡ sets output at (take (start + len - start) (drop start sheet)) → after ≡ sets output at (partBytes s sheet p)
+      sheet-put output after at f = f ∙ ap (sets output at) sheet-bytes
+
+      module _ (h : PartInside s sheet p) where
+        pub sheet-end : start + len ≤ length sheet
+        sheet-end = rw e at h
+
+        pub sheet-fits : length sheet < 2 ^ 64 → Fits w64 (start + len)
+        sheet-fits k = record { fits = omega (arith, sheet-end) }
+
+        pub sheet-room : (output : List ℕ) (at : ℕ) → at + partLength p ≤ length output → at + length (take (start + len - start) (drop start sheet)) ≤ length output
+        sheet-room output at k = let l : at + len ≤ length output = rw e at k in rw (long sheet sheet-end) l
+
+-- what stands for a token, put
+module _ (s sheet output : List ℕ) (at : ℕ) (index : ℕ) (t : Token) (p : Part) (e : p ≡ standsFor s sheet index t) where
+  module _ (good : isSheet sheet ≡ true) (h : t .start + t .len ≤ length s) where
+    pub for-inside : PartInside s sheet p
+    for-inside = rw e (stands-inside s sheet good t h index)
+
+  pub for-room : at + partLength (standsFor s sheet index t) ≤ length output → at + partLength p ≤ length output
+  for-room k = rw e k
+
+  pub for-fits : (n : ℕ) → n ≡ partLength p → at + partLength (standsFor s sheet index t) ≤ length output → length output < 2 ^ 64 → Fits w64 (at + n)
+  for-fits n f k l = let m : at + partLength p ≤ length output = for-room k in record { fits = omega (arith, m, f) }
+
+  pub for-length : (n : ℕ) → n ≡ partLength p → at + n ≡ at + partLength (standsFor s sheet index t)
+  for-length n f = rw (f, e)
+
+  pub for-put : (after : List ℕ) → after ≡ sets output at (partBytes s sheet p) → after ≡ sets output at (partBytes s sheet (standsFor s sheet index t))
+  for-put after f = f ∙ rw e

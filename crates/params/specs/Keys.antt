@@ -1,0 +1,36 @@
+-- What is asked of a token's key.
+use Prim.Native.Nat.{ℕ, _+_}
+use mathlib.Core.Bool.{Bool, true, false}
+use mathlib.Core.List.{List}
+use lib.Dec.{ltb}
+use lib.ListN.{length}
+use Rattle.recognisers.specs.declared.Key.{Key}
+use Rattle.recognisers.specs.declared.Key.the-variants.{None, Named, Escaped, ZeroIndexed, OneIndexed}
+use Rattle.tokenizer.specs.KeyText.{keyText}
+
+-- `key.named() != ""`; no key has the empty text
+unfoldable pub hasName : List ℕ → Key → Bool
+hasName s key = ltb 0 (length (keyText s key))
+
+abbrev pub hasKey : Key → Bool
+hasKey None = false
+hasKey (Named start len) = true
+hasKey (Escaped start len) = true
+hasKey (ZeroIndexed n) = true
+hasKey (OneIndexed n) = true
+
+-- `key.indexed()` is none
+abbrev pub hasNoIndex : Key → Bool
+hasNoIndex None = true
+hasNoIndex (Named start len) = true
+hasNoIndex (Escaped start len) = true
+hasNoIndex (ZeroIndexed n) = false
+hasNoIndex (OneIndexed n) = false
+
+-- where the bytes of a key's text end, with the closing quote where escapes are to be undone
+abbrev pub keyEnd : Key → ℕ
+keyEnd None = 0
+keyEnd (Named start len) = start + len
+keyEnd (Escaped start len) = start + len + 1
+keyEnd (ZeroIndexed n) = 0
+keyEnd (OneIndexed n) = 0

@@ -1,0 +1,52 @@
+// A part of the statement or of the sheet: its length, its bytes, and the bytes put into an output.
+use crate::Part;
+use tight::put_bytes;
+ghost use mathlib.Core.Path.{_≡_};
+ghost use Prim.Native.Nat.{_+_, _≤_};
+ghost use lib.ListN.{length};
+ghost use lib.Seq.{sets};
+ghost use Rattle.params.specs.Filled.{partBytes, partLength, partStart, PartInside};
+
+pub fn part_length(part: Part) -> usize
+    ensures { λ r. ⌜ r ≡ partLength part ⌝ }
+{
+    match part {
+        Part::Statement { start: _, len } => len,
+        Part::Sheet { start: _, len } => len,
+    }
+}
+
+pub fn put_part(statement: &[u8], sheet: &[u8], part: Part, output: &mut [u8], at: usize)
+    requires { ⌜ PartInside (now statement) (now sheet) part ⌝ }
+    requires { ⌜ at + partLength part ≤ length (now output) ⌝ }
+    ensures { λ _. ⌜ now (output .exit) ≡ sets (now (output .entry)) at (partBytes (now (statement .entry)) (now (sheet .entry)) part) ⌝ }
+{
+    match part {
+        Part::Statement { start, len } => {
+            let end = start + len;
+            put_bytes(&statement[start..end], output, at);
+        }
+        Part::Sheet { start, len } => {
+            let end = start + len;
+            put_bytes(&sheet[start..end], output, at);
+        }
+    }
+}
+
+// The part itself, of one of two sources: which one, and where in it, is told by where the part starts in memory.
+pub fn part_of<'a>(statement: &'a [u8], sheet: &'a [u8], part: Part) -> &'a [u8]
+    requires { ⌜ PartInside (now statement) (now sheet) part ⌝ }
+    ensures { λ r. ⌜ now r ≡ partBytes (now (statement .entry)) (now (sheet .entry)) part ⌝ }
+    ensures { λ r. ⌜ r .ptr ≡ partStart (statement .entry .ptr) (sheet .entry .ptr) part ⌝ }
+{
+    match part {
+        Part::Statement { start, len } => {
+            let end = start + len;
+            &statement[start..end]
+        }
+        Part::Sheet { start, len } => {
+            let end = start + len;
+            &sheet[start..end]
+        }
+    }
+}

@@ -1,0 +1,100 @@
+// The filled text of a whole statement: its length, and the text itself. A value that is next in turn costs one look at one
+// entry; one that is named or numbered costs a look at each entry before it.
+use crate::Params;
+use crate::getting::params_past;
+use crate::getting::stands_for;
+use crate::parts::part_length;
+use crate::parts::put_part;
+use crate::places::params_at;
+use tokenizer::Settings;
+use tokenizer::Step;
+use tokenizer::Token;
+use tokenizer::at_start;
+use tokenizer::next_step;
+ghost use mathlib.Core.Path.{_≡_};
+ghost use mathlib.Core.Bool.{true};
+ghost use mathlib.Core.List.{_++_};
+ghost use Prim.Native.Nat.{_+_, _≤_};
+ghost use lib.ListN.{length, drop};
+ghost use lib.Seq.{sets};
+ghost use Rattle.params.specs.Sheet.{isSheet};
+ghost use Rattle.params.specs.Keys.{keyEnd};
+ghost use Rattle.params.specs.Get.{paramsAt};
+ghost use Rattle.params.specs.Filled.{standsFor, partBytes, partLength, filled};
+
+// The length of what stands for a token.
+fn length_for(statement: &[u8], sheet: &[u8], params: Params, token: Token) -> usize
+    requires { ⌜ isSheet (now sheet) ≡ true ⌝ }
+    requires { ⌜ keyEnd (token .key) ≤ length (now statement) ⌝ }
+    requires { ⌜ params ≡ paramsAt (now sheet) (params .index) ⌝ }
+    ensures { λ r. ⌜ r ≡ partLength (standsFor (now (statement .entry)) (now (sheet .entry)) (params .index) token) ⌝ }
+{
+    part_length(stands_for(statement, sheet, params, token))
+}
+
+// What stands for a token, put into the output; the place behind it.
+fn put_for(
+    statement: &[u8],
+    sheet: &[u8],
+    params: Params,
+    token: Token,
+    output: &mut [u8],
+    at: usize,
+) -> usize
+    requires { ⌜ isSheet (now sheet) ≡ true ⌝ }
+    requires { ⌜ keyEnd (token .key) ≤ length (now statement) ⌝ }
+    requires { ⌜ params ≡ paramsAt (now sheet) (params .index) ⌝ }
+    requires { ⌜ token .start + token .len ≤ length (now statement) ⌝ }
+    requires { ⌜ at + partLength (standsFor (now statement) (now sheet) (params .index) token) ≤ length (now output) ⌝ }
+    ensures { λ r. ⌜ r ≡ at + partLength (standsFor (now (statement .entry)) (now (sheet .entry)) (params .index) token) ⌝ }
+    ensures { λ _. ⌜ now (output .exit) ≡ sets (now (output .entry)) at (partBytes (now (statement .entry)) (now (sheet .entry)) (standsFor (now (statement .entry)) (now (sheet .entry)) (params .index) token)) ⌝ }
+{
+    let part = stands_for(statement, sheet, params, token);
+    put_part(statement, sheet, part, output, at);
+    at + part_length(part)
+}
+
+pub fn filled_length(statement: &[u8], settings: Settings, sheet: &[u8]) -> usize
+    requires { ⌜ length (now statement) ≤ 65536 ⌝ }
+    requires { ⌜ isSheet (now sheet) ≡ true ⌝ }
+    ensures { λ r. ⌜ r ≡ length (filled settings (now (statement .entry)) (now (sheet .entry))) ⌝ }
+{
+    let mut count = 0;
+    let mut params = params_at(sheet, 0);
+    let mut cursor = at_start();
+    loop {
+        match next_step(statement, settings, cursor) {
+            Step::Token(token, next) => {
+                count += length_for(statement, sheet, params, token);
+                params = params_past(statement, sheet, params, token);
+                cursor = next;
+            }
+            Step::Done => {
+                return count;
+            }
+        }
+    }
+}
+
+pub fn write_filled(statement: &[u8], settings: Settings, sheet: &[u8], output: &mut [u8])
+    requires { ⌜ length (now statement) ≤ 65536 ⌝ }
+    requires { ⌜ isSheet (now sheet) ≡ true ⌝ }
+    requires { ⌜ length (filled settings (now statement) (now sheet)) ≤ length (now output) ⌝ }
+    ensures { λ _. ⌜ now (output .exit) ≡ filled settings (now (statement .entry)) (now (sheet .entry)) ++ drop (length (filled settings (now (statement .entry)) (now (sheet .entry)))) (now (output .entry)) ⌝ }
+{
+    let mut at = 0;
+    let mut params = params_at(sheet, 0);
+    let mut cursor = at_start();
+    loop {
+        match next_step(statement, settings, cursor) {
+            Step::Token(token, next) => {
+                at = put_for(statement, sheet, params, token, output, at);
+                params = params_past(statement, sheet, params, token);
+                cursor = next;
+            }
+            Step::Done => {
+                return;
+            }
+        }
+    }
+}
