@@ -8,7 +8,7 @@ archive := target/staticlib/libventpeeler.a
 rust := rustc --edition 2021 -O
 warnings := -Wall -Wextra -Wpedantic -Werror
 c := cc -std=c99 -O2 $(warnings) -Iinclude
-example := examples/search.c examples/no_filling.c
+example := examples/search.c examples/filling.c
 categories := /usr/share/cargo/registry/unicode_categories-0.1.1/src/lib.rs
 
 .PHONY: all test bench tables
@@ -23,10 +23,12 @@ test:
 	tools/setup
 	tests/run
 
-bench: $(build)/bench_unicode $(build)/bench_reading
+bench: $(build)/bench_unicode $(build)/bench_reading $(build)/bench_fill
 	$(build)/bench_unicode
 	@echo
 	$(build)/bench_reading
+	@echo
+	$(build)/bench_fill
 
 tables: $(build)/tables
 	$(build)/tables crates/unicode
