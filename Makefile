@@ -48,6 +48,10 @@ $(build)/replay_%: tests/%/replay.rs tests/replaying.rs target/staticlib/libvent
 	@mkdir -p $(build)
 	$(rust) -o $@ $< -L target/staticlib -l static=ventpeeler
 
+$(build)/replay_lookup: tests/lookup/replay.rs tests/replaying.rs target/staticlib/libparams_exports.a
+	@mkdir -p $(build)
+	$(rust) -o $@ $< -L target/staticlib -l static=params_exports
+
 # unicode_categories is older than its compiler, which warns of that
 $(build)/libunicode_categories.rlib: $(categories)
 	@mkdir -p $(build)
