@@ -1,4 +1,5 @@
-// What the replays of the files in tests/vectors share: the lines, and the count of checks.
+// What the replays of the files in tests/vectors share: the lines, and the count of checks. Each uses a part of it.
+#![allow(dead_code)]
 
 // The byte that stands where nothing may be written.
 pub const GUARD: u8 = 0xA5;
@@ -37,6 +38,19 @@ pub fn numbers(rest: &str) -> Vec<u64> {
 pub fn repeated(rest: &str) -> Vec<u8> {
     let n = numbers(rest);
     vec![n[1] as u8; n[0] as usize]
+}
+
+// Bytes, two digits for each.
+pub fn hexadecimal(text: &str) -> Vec<u8> {
+    (0..text.len() / 2).map(|i| u8::from_str_radix(&text[2 * i..2 * i + 2], 16).unwrap()).collect()
+}
+
+// A line's `N B HEX`: bytes, and N times the byte B behind them.
+pub fn continued(rest: &str) -> Vec<u8> {
+    let words: Vec<&str> = rest.split(' ').collect();
+    let mut bytes = hexadecimal(words[2]);
+    bytes.extend(repeated(&words[..2].join(" ")));
+    bytes
 }
 
 // A line's mark, and what follows it.
