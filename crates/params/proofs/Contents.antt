@@ -1,6 +1,6 @@
 -- What the contents of a sheet tell: kind, count and lengths.
 -- Assumes nothing.
-use Prim.Native.Nat.{ℕ, _+_, _*_, _^_, _≤_, _<_}
+use Prim.Native.Nat.{ℕ, _+_, _*_, _≤_, _<_}
 use native.Mathlib.Omega.{arith}
 use mathlib.Core.Path.{_≡_, refl, sym, _∙_}
 use mathlib.Core.Bool.{Bool, true, false, cond}
@@ -61,9 +61,6 @@ module _ (sheet : List ℕ) where
   pub some-width : 1 ≤ width sheet
   some-width = either-width (λ w. 1 ≤ w) (omega arith) (omega arith)
 
-  pub small-width : width sheet ≤ 4
-  small-width = either-width (λ w. w ≤ 4) (omega arith) (omega arith)
-
   pub bodies-product : (n w : ℕ) → n < 65536 → w ≡ width sheet → n * w ≤ 262140
   bodies-product n w h e = rw e (either-width (λ v. n * v ≤ 262140) (omega arith) (omega arith))
 
@@ -86,9 +83,6 @@ module _ (sheet : List ℕ) where
     module _ (b : Bool) (e : b ≡ isNamed sheet) where
       pub named-room : b ≡ true → p .lengths + width sheet ≤ length sheet → p .lengths + 1 < length sheet
       named-room f h = omega (arith, named-width b e f)
-
-      pub named-fits : b ≡ true → p .lengths + width sheet ≤ length sheet → length sheet < 2 ^ 64 → Fits w64 (p .lengths + 2)
-      named-fits f h k = record { fits = omega (arith, named-width b e f) }
 
       pub value-room : b ≡ true → p .lengths + width sheet ≤ length sheet → p .lengths + 2 + 1 < length sheet
       value-room f h = omega (arith, named-width b e f)
