@@ -1,13 +1,13 @@
 -- What the contents of a sheet tell: kind, count and lengths.
 -- Assumes nothing.
-use Prim.Native.Nat.{ℕ, _+_, _-_, _*_, _^_, _≤_, _<_}
+use Prim.Native.Nat.{ℕ, _+_, _*_, _≤_, _<_}
 use native.Mathlib.Omega.{arith}
-use mathlib.Core.Path.{_≡_, refl, sym, ap, _∙_}
-use mathlib.Core.Bool.{Bool, true, false, cond, _&&_, _||_}
+use mathlib.Core.Path.{_≡_, refl, sym, _∙_}
+use mathlib.Core.Bool.{Bool, true, false, cond}
 use mathlib.Core.List.{List}
-use borrow.Author.Tests.{lt-ltb, le-ltb, le-leb, lt-leb, eq-eqb, ne-eqb, ltb-true, ltb-false}
+use borrow.Author.Tests.{le-leb, lt-leb, eq-eqb, ne-eqb, ltb-true, ltb-false}
 use lib.Dec.{leb, ltb, eqb}
-use lib.ListN.{length, take, drop, getD}
+use lib.ListN.{length, getD}
 use mir.Syntax.{w64}
 use mir.Val.{Fits}
 use Rattle.unicode.specs.declared.IllFormed.{IllFormed}
@@ -15,9 +15,8 @@ use Rattle.unicode.specs.declared.IllFormed.the-variants.{At, Nowhere}
 use Rattle.unicode.specs.Utf8.{wellFormedFrom, firstIllFormed, wellFormed}
 use Rattle.params.specs.declared.Lengths.{Lengths}
 use Rattle.params.specs.declared.Place.{Place}
-use Rattle.params.specs.declared.QueryParams.{QueryParams}
 use Rattle.params.specs.declared.QueryParams.the-variants.{None, Named, Indexed}
-use Rattle.params.specs.Sheet.{le16, kindOf, paramsOf, countOf, isNamed, width, lengthsAt, past, placeOf, nameAt, valueAt, isKindAndCount}
+use Rattle.params.specs.Sheet.{le16, kindOf, paramsOf, countOf, isNamed, width, lengthsAt, past, placeOf, isKindAndCount}
 
 module _ (sheet : List ℕ) where
   pub le16-is : (at a b : ℕ) → a ≡ getD sheet at 0 → b ≡ getD sheet (at + 1) 0 → a + 256 * b ≡ le16 sheet at
@@ -62,9 +61,6 @@ module _ (sheet : List ℕ) where
   pub some-width : 1 ≤ width sheet
   some-width = either-width (λ w. 1 ≤ w) (omega arith) (omega arith)
 
-  pub small-width : width sheet ≤ 4
-  small-width = either-width (λ w. w ≤ 4) (omega arith) (omega arith)
-
   pub bodies-product : (n w : ℕ) → n < 65536 → w ≡ width sheet → n * w ≤ 262140
   bodies-product n w h e = rw e (either-width (λ v. n * v ≤ 262140) (omega arith) (omega arith))
 
@@ -87,9 +83,6 @@ module _ (sheet : List ℕ) where
     module _ (b : Bool) (e : b ≡ isNamed sheet) where
       pub named-room : b ≡ true → p .lengths + width sheet ≤ length sheet → p .lengths + 1 < length sheet
       named-room f h = omega (arith, named-width b e f)
-
-      pub named-fits : b ≡ true → p .lengths + width sheet ≤ length sheet → length sheet < 2 ^ 64 → Fits w64 (p .lengths + 2)
-      named-fits f h k = record { fits = omega (arith, named-width b e f) }
 
       pub value-room : b ≡ true → p .lengths + width sheet ≤ length sheet → p .lengths + 2 + 1 < length sheet
       value-room f h = omega (arith, named-width b e f)

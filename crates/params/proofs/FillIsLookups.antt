@@ -1,14 +1,13 @@
 -- The filled text is what the lookups of the tokens, one after the other, give: the counter runs through them from 0.
 -- Assumes nothing.
-use Prim.Native.Nat.{ℕ, zero, suc, _+_}
+use Prim.Native.Nat.{ℕ, zero, suc}
 use native.Mathlib.Numerals.{add-one}
 use mathlib.Core.Path.{_≡_, refl, sym, ap, _∙_}
 use mathlib.Core.Bool.{false}
 use mathlib.Core.List.{List, [], _∷_, _++_}
 use lib.ListN.{length, drop}
 use lib.Seq.{drop-drop}
-use Rattle.tokenizer.specs.declared.Checked.{Checked}
-use Rattle.tokenizer.specs.declared.Checked.the-variants.{Accepted, Refused}
+use Rattle.tokenizer.specs.declared.Checked.the-variants.{Accepted}
 use Rattle.tokenizer.specs.declared.Settings.{Settings}
 use Rattle.tokenizer.specs.declared.Token.{Token}
 use Rattle.tokenizer.specs.Tokens.{tokens}

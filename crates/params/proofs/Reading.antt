@@ -1,18 +1,17 @@
 -- A step's token: its text and its key's text lie inside the statement, and what stands for it inside its source.
 -- Assumes nothing.
-use Prim.Native.Nat.{ℕ, _+_, _-_, _^_, _≤_, _<_, zero-le}
+use Prim.Native.Nat.{ℕ, _+_, _≤_, _<_, zero-le}
 use native.Mathlib.Nat.{le-trans}
 use native.Mathlib.Omega.{arith}
-use mathlib.Core.Path.{_≡_, refl, sym, ap, _∙_}
-use mathlib.Core.Bool.{Bool, true, false, cond}
+use mathlib.Core.Path.{_≡_, refl, sym, _∙_}
+use mathlib.Core.Bool.{Bool, true, false}
 use mathlib.Core.List.{List}
-use borrow.Author.Tests.{ltb-true, ltb-false}
+use borrow.Author.Tests.{ltb-true}
 use lib.Dec.{ltb}
 use lib.ListN.{length, take, drop, length-drop}
 use lib.Seq.{length-take-le}
 use Rattle.recognisers.specs.declared.Key.{Key}
 use Rattle.recognisers.specs.declared.Key.the-variants as K
-use Rattle.recognisers.specs.declared.Piece.{Piece}
 use Rattle.recognisers.specs.declared.Recognised.{Recognised}
 use Rattle.recognisers.specs.declared.Recognised.the-variants as R
 use Rattle.recognisers.proofs.Sizes.{KeyFits, Sized, Sound}
@@ -23,17 +22,16 @@ use Rattle.tokenizer.specs.declared.Step.the-variants as S
 use Rattle.tokenizer.specs.declared.Token.{Token}
 use Rattle.tokenizer.specs.Memory.{remembered}
 use Rattle.tokenizer.specs.NextToken.{nextPiece}
-use Rattle.tokenizer.specs.Tokens.{placed, tokenAt, stepOf, stepAt}
+use Rattle.tokenizer.specs.Tokens.{placed, tokenAt, stepAt}
 use Rattle.tokenizer.proofs.Sizing.{piece-sized}
 use Rattle.tokenizer.proofs.Walking.{step-moves}
 use Rattle.params.specs.declared.Part.{Part}
 use Rattle.params.specs.declared.Part.the-variants as P
-use Rattle.params.specs.declared.Place.{Place}
 use Rattle.params.specs.Sheet.{countOf, lengthsAt, placeOf, isSheet}
 use Rattle.params.specs.Keys.{keyEnd}
-use Rattle.params.specs.Get.{taken, ownText, valuePart, valueOr, get}
+use Rattle.params.specs.Get.{taken, valuePart, valueOr, get}
 use Rattle.params.specs.Filled.{isPlaceholder, standsFor, partBytes, partLength, PartInside}
-use Rattle.params.proofs.Standing.{sheet-short, at-end, stands, entry-of}
+use Rattle.params.proofs.Standing.{at-end, stands, entry-of}
 
 key-ends : (at n : ℕ) (key : Key) → KeyFits n key → keyEnd (placed at key) ≤ at + n
 key-ends at n K.None h = zero-le

@@ -1,11 +1,10 @@
 -- The places of a well-formed sheet's entries: what is read there lies inside, and which entry a walk finds.
 -- Assumes nothing.
-use Prim.Native.Nat.{ℕ, zero, suc, _+_, _-_, _*_, _^_, _≤_, _<_, zero-le}
-use native.Mathlib.Nat.{le-refl, le-of-lt}
+use Prim.Native.Nat.{ℕ, suc, _+_, _-_, _*_, _^_, _≤_, _<_, zero-le}
 use native.Mathlib.Numerals.{add-one}
 use native.Mathlib.Omega.{arith}
-use mathlib.Core.Path.{_≡_, refl, sym, ap, _∙_, subst}
-use mathlib.Core.Bool.{Bool, true, false, cond, _&&_, false≢true}
+use mathlib.Core.Path.{_≡_, refl, sym, ap, _∙_}
+use mathlib.Core.Bool.{Bool, true, false, _&&_, false≢true}
 use mathlib.Core.List.{List}
 use borrow.Author.Tests.{lt-ltb, le-ltb, ltb-true, ltb-false, leb-true, eqb-true}
 use lib.Dec.{leb, ltb, eqb}
@@ -275,14 +274,6 @@ module _ (sheet : List ℕ) where
   pub up-to-most : (n : ℕ) → n ≡ countOf sheet → n ≤ countOf sheet
   up-to-most n e = omega arith
 
-  up-to-inside : (n : ℕ) → upTo (countOf sheet) n ≤ countOf sheet
-  unfolding upTo
-  up-to-inside n = go (ltb n (countOf sheet)) refl
-    where
-      go : (b : Bool) → ltb n (countOf sheet) ≡ b → upTo (countOf sheet) n ≤ countOf sheet
-      go true e = let h : n < countOf sheet = ltb-true n (countOf sheet) e in rw e (le-of-lt h)
-      go false e = rw e (le-refl (countOf sheet))
-
   module _ (params : Params) (at : params ≡ paramsAt sheet (params .index)) where
     next-is : params .next ≡ placeOf sheet (upTo (countOf sheet) (params .index))
     unfolding paramsAt
@@ -307,13 +298,6 @@ module _ (sheet : List ℕ) where
         where
           go : (b : Bool) → ltb (params .index) largest ≡ b → countedOn (params .index) ≡ params .index + 1
           go true e = rw e
-          go false e = absurd (d (let k : largest ≤ params .index = ltb-false (params .index) largest e in omega arith))
-
-      pub turn-fits : Fits w64 (params .index + 1)
-      turn-fits = go (ltb (params .index) largest) refl
-        where
-          go : (b : Bool) → ltb (params .index) largest ≡ b → Fits w64 (params .index + 1)
-          go true e = let k : params .index < largest = ltb-true (params .index) largest e in record { fits = omega arith }
           go false e = absurd (d (let k : largest ≤ params .index = ltb-false (params .index) largest e in omega arith))
 
       module _ (n : ℕ) (count : n ≡ countOf sheet) where

@@ -1,13 +1,13 @@
 -- Two accepted sheets of one kind, with equal names and count, that differ only in values no placeholder takes give the same
 -- fill answer and bytes.
 -- Assumes nothing.
-use Prim.Native.Nat.{ℕ, zero, suc, _+_, _-_, _≤_, _<_}
+use Prim.Native.Nat.{ℕ, zero, suc, _+_, _<_}
 use native.Mathlib.Omega.{arith}
 use mathlib.Core.Path.{_≡_, refl, sym, ap, _∙_}
 use mathlib.Core.Bool.{Bool, true, false, cond}
 use mathlib.Core.List.{List, [], _∷_, _++_}
 use borrow.Author.Tests.{ltb-true}
-use lib.Dec.{ltb, eqb}
+use lib.Dec.{ltb}
 use Rattle.recognisers.specs.declared.Key.{Key}
 use Rattle.recognisers.specs.declared.Key.the-variants as K
 use Rattle.reserved.specs.Reserved.{same}
@@ -22,8 +22,7 @@ use Rattle.tight.specs.Answers.{textAnswer, textAfter}
 use Rattle.params.specs.declared.QueryParams.{QueryParams}
 use Rattle.params.specs.declared.QueryParams.the-variants as Q
 use Rattle.params.specs.Sheet.{kindOf, paramsOf, countOf, placeOf, nameOf, valueAt, valueOf, isSheet}
-use Rattle.params.specs.Keys.{hasKey, hasName}
-use Rattle.params.specs.Get.{firstNamed, withName, byName, byIndex, takenFrom, taken, ownText, valuePart, valueOr, get, indexFrom, indexPast}
+use Rattle.params.specs.Get.{firstNamed, withName, byName, byIndex, takenFrom, taken, valuePart, valueOr, get, indexPast}
 use Rattle.params.specs.Filled.{isPlaceholder, standsFor, indexAfter, partBytes, filledFrom, filled}
 use Rattle.params.specs.Answers.{checkedWith, fillAnswer, fillOutput}
 

@@ -17,7 +17,7 @@ ghost use Rattle.reserved.specs.Reserved.{same};
 ghost use Rattle.tokenizer.specs.KeyText.{keyText};
 ghost use Rattle.params.specs.Sheet.{countOf, width, lengthsAt, placeOf, nameAt, isSheet};
 ghost use Rattle.params.specs.Keys.{keyEnd};
-ghost use Rattle.params.specs.Get.{withName, ownText, valueOr, countedOn, upTo, paramsAt};
+ghost use Rattle.params.specs.Get.{withName, ownText, valueOr, countedOn, paramsAt};
 
 // The place of an entry by its number: one look at each entry before it.
 fn place_of(sheet: &[u8], n: usize) -> Place

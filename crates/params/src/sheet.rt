@@ -10,7 +10,7 @@ ghost use Prim.Native.Nat.{_+_, _≤_, _<_};
 ghost use lib.Dec.{leb};
 ghost use lib.ListN.{length};
 ghost use Rattle.unicode.specs.Utf8.{wellFormed};
-ghost use Rattle.params.specs.Sheet.{le16, kindOf, paramsOf, countOf, isNamed, width, lengthsAt, past, placeOf, nameAt, valueAt, bodiesAreUtf8, fillsExactly, isSheetLength, isKindAndCount, isSheet};
+ghost use Rattle.params.specs.Sheet.{le16, paramsOf, countOf, isNamed, width, lengthsAt, past, placeOf, nameAt, valueAt, bodiesAreUtf8, fillsExactly, isKindAndCount, isSheet};
 
 fn wide(b: u8) -> usize
     ensures { λ r. ⌜ r ≡ b ⌝ }
