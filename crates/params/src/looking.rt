@@ -12,6 +12,7 @@ use tokenizer::Checked;
 use tokenizer::Settings;
 use tokenizer::Step;
 use tokenizer::Token;
+use tokenizer::answer_detail;
 use tokenizer::answer_number;
 use tokenizer::at_start;
 use tokenizer::next_step;
@@ -19,25 +20,10 @@ ghost use mathlib.Core.Path.{_≡_};
 ghost use mathlib.Core.Bool.{true};
 ghost use Prim.Native.Nat.{_≤_};
 ghost use lib.ListN.{length};
-ghost use Rattle.tokenizer.specs.Answers.{answerDetail};
 ghost use Rattle.params.specs.Sheet.{isSheet};
 ghost use Rattle.params.specs.Keys.{keyEnd};
 ghost use Rattle.params.specs.Filled.{standsFor, indexAfter, partBytes, partLength, partStart, PartInside};
 ghost use Rattle.params.specs.Answers.{nothingFound, foundAt, lookupFound, lookupNumber, lookupDetail};
-
-fn answer_detail(answer: Answer) -> u64
-    ensures { λ r. ⌜ r ≡ answerDetail answer ⌝ }
-{
-    match answer {
-        Answer::Done(n) => n,
-        Answer::Overlong(n) => n,
-        Answer::NotUtf8(n) => n,
-        Answer::Setting => 0,
-        Answer::TableFull(n) => n,
-        Answer::Sheet => 0,
-        Answer::OutputFull(n) => n,
-    }
-}
 
 // The empty start of the statement.
 fn nothing_found(counter: u64) -> Found

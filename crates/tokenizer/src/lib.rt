@@ -12,6 +12,7 @@ mod stepping;
 mod table;
 mod tokenizing;
 
+pub use answers::answer_detail;
 pub use answers::answer_number;
 pub use records::key_words;
 pub use remembering::is_kind;

@@ -2,29 +2,16 @@
 use params::fill;
 use tight::tighten;
 use tokenizer::Answer;
+use tokenizer::answer_detail;
 use tokenizer::answer_number;
 use tokenizer::tokenize;
 ghost use mathlib.Core.Path.{_≡_};
 ghost use Prim.Native.Nat.{min, _≤_};
 ghost use lib.ListN.{length};
-ghost use Rattle.tokenizer.specs.Answers.{answerDetail, tokenizeAnswer, tokenizeRecords};
+ghost use Rattle.tokenizer.specs.Answers.{tokenizeAnswer, tokenizeRecords};
 ghost use Rattle.tight.specs.Answers.{tightenAnswer, tightenOutput};
 ghost use Rattle.params.specs.Answers.{fillAnswer, fillOutput};
 ghost use Rattle.ventpeeler.specs.Packed.{packed};
-
-fn answer_detail(answer: Answer) -> u64
-    ensures { λ r. ⌜ r ≡ answerDetail answer ⌝ }
-{
-    match answer {
-        Answer::Done(n) => n,
-        Answer::Overlong(n) => n,
-        Answer::NotUtf8(n) => n,
-        Answer::Setting => 0,
-        Answer::TableFull(n) => n,
-        Answer::Sheet => 0,
-        Answer::OutputFull(n) => n,
-    }
-}
 
 fn at_most(n: u64, most: u64) -> u64
     ensures { λ r. ⌜ r ≡ min n most ⌝ }
