@@ -1,6 +1,6 @@
 /*
- * A plain scanner to hold beside ours: one pass to count the tokens, one to write a record of seven words for each. It knows
- * gaps, comments, strings, numbers, words (the commonest reserved ones by a search in a sorted list), placeholders and
+ * A plain scanner to hold beside ours: it writes a record of seven words for each token, and counts them first only where
+ * there may be too few records. It knows gaps, comments, strings, numbers, words (the commonest reserved ones by a search in a sorted list), placeholders and
  * operators, all by bytes: no UTF-8, no phrases, no earlier tokens, one dialect.
  */
 #include <stddef.h>
@@ -148,6 +148,15 @@ static size_t token(const uint8_t *text, const uint8_t *end, uint32_t *kind) {
 }
 
 /* The number of tokens; their records are written where the table holds them all. */
+static size_t count_tokens(const uint8_t *text, const uint8_t *end) {
+    size_t count = 0;
+    uint32_t kind;
+    for (const uint8_t *at = text; at < end; count++) {
+        at += token(at, end, &kind);
+    }
+    return count;
+}
+
 size_t plain_scan(const uint8_t *text, size_t length, uint8_t *records, size_t room) {
     const uint8_t *end = text + length;
     size_t count = 0;
@@ -155,13 +164,10 @@ size_t plain_scan(const uint8_t *text, size_t length, uint8_t *records, size_t r
     if (classes[' '] != BLANK) {
         make_classes();
     }
-    for (const uint8_t *at = text; at < end; count++) {
-        at += token(at, end, &kind);
+    if (room / RECORD < length && count_tokens(text, end) > room / RECORD) {
+        return count_tokens(text, end);
     }
-    if (count * RECORD > room) {
-        return count;
-    }
-    for (const uint8_t *at = text; at < end; records += RECORD) {
+    for (const uint8_t *at = text; at < end; records += RECORD, count++) {
         size_t taken = token(at, end, &kind);
         uint32_t words[7] = {kind, (uint32_t)(at - text), (uint32_t)taken, (uint32_t)taken, 0, 0, 0};
         memcpy(records, words, RECORD);
