@@ -1,4 +1,4 @@
-# make          proves the crates, builds the archive for C and the example, and runs the example on a sample
+# make          tries a program in seconds, proves the crates, builds the archive for C and the example, and runs that on a sample
 # make test     runs all tests; the last line counts them
 # make bench    prints speeds beside a plain scanner's and Rust's
 # make tables   prints the character tables anew (needs rustc and Debian's librust-unicode-categories-dev)
@@ -13,7 +13,10 @@ categories := /usr/share/cargo/registry/unicode_categories-0.1.1/src/lib.rs
 
 .PHONY: all test bench tables
 
+# what is tried first is not proved yet
 all:
+	rt try filling
+	@printf '\nthe search `? $$2 ? ?2`, filled from a sheet with 7 and 8: %s\n\n' "$$(cat crates/filling/stdout)"
 	rt check
 	@$(MAKE) --silent $(build)/search
 	@printf '\nsamples/slab.sql, with values for its placeholders:\n\n'
