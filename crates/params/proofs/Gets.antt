@@ -19,7 +19,8 @@ use Rattle.params.specs.declared.QueryParams.{QueryParams}
 use Rattle.params.specs.declared.QueryParams.the-variants as Q
 use Rattle.params.specs.Sheet.{paramsOf, countOf, placeOf}
 use Rattle.params.specs.Keys.{hasKey, hasName, hasNoIndex}
-use Rattle.params.specs.Get.{withName, byName, byIndex, taken, ownText, valueOr, get, countedOn, indexPast, upTo, paramsAt}
+use Rattle.params.specs.Get.{withName, byName, byIndex, taken, ownText, valueOr, get, countedOn, indexPast}
+use Rattle.params.specs.Carried.{upTo, paramsAt}
 use Rattle.params.specs.Filled.{isPlaceholder, standsFor, indexAfter}
 use Rattle.params.proofs.Standing.{entry-of, turn-entry}
 

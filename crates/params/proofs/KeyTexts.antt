@@ -18,7 +18,8 @@ use Rattle.recognisers.specs.Text.{byte}
 use Rattle.recognisers.specs.Taking.{startsWith}
 use Rattle.reserved.specs.Reserved.{same}
 use Rattle.tokenizer.specs.KeyText.{unescaped, keyText}
-use Rattle.params.specs.Keys.{hasName, keyEnd}
+use Rattle.params.specs.Keys.{hasName}
+use Rattle.params.specs.Inside.{keyEnd}
 
 -- the bytes from a place on, its own first
 pub at-first : (s : List ℕ) (i : ℕ) → i < length s → drop i s ≡ getD s i 0 ∷ drop (i + 1) s

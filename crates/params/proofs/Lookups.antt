@@ -23,9 +23,9 @@ use Rattle.params.specs.declared.Found.{Found}
 use Rattle.params.specs.declared.Params.{Params}
 use Rattle.params.specs.declared.Part.{Part}
 use Rattle.params.specs.Sheet.{isSheet}
-use Rattle.params.specs.Keys.{keyEnd}
-use Rattle.params.specs.Get.{paramsAt}
-use Rattle.params.specs.Filled.{standsFor, indexAfter, partBytes, partLength, partStart, PartInside}
+use Rattle.params.specs.Inside.{keyEnd, PartInside}
+use Rattle.params.specs.Carried.{paramsAt}
+use Rattle.params.specs.Filled.{standsFor, indexAfter, partBytes, partLength, partStart}
 use Rattle.params.specs.Answers.{checkedWith, nothingFound, foundFirst, foundAt, lookupFound, lookupNumber, lookupDetail}
 use Rattle.params.proofs.Reading.{step-inside, step-key, stands-inside}
 

@@ -21,9 +21,9 @@ use Rattle.tokenizer.proofs.Walking.{left, Moved, step-moves, step-less, step-e
 use Rattle.params.specs.declared.Params.{Params}
 use Rattle.params.specs.declared.Part.{Part}
 use Rattle.params.specs.Sheet.{isSheet}
-use Rattle.params.specs.Keys.{keyEnd}
-use Rattle.params.specs.Get.{paramsAt}
-use Rattle.params.specs.Filled.{standsFor, indexAfter, partBytes, partLength, PartInside, filledFrom, filled}
+use Rattle.params.specs.Inside.{keyEnd, PartInside}
+use Rattle.params.specs.Carried.{paramsAt}
+use Rattle.params.specs.Filled.{standsFor, indexAfter, partBytes, partLength, filledFrom, filled}
 use Rattle.params.proofs.Reading.{step-inside, step-key, stands-inside, part-is-long, part-short}
 use Rattle.params.proofs.Standing.{sheet-short}
 

@@ -19,7 +19,8 @@ use Rattle.params.specs.declared.Part.{Part}
 use Rattle.params.specs.declared.Part.the-variants as P
 use Rattle.params.specs.declared.Place.{Place}
 use Rattle.params.specs.Sheet.{countOf, width, lengthsAt, past, placeOf, nameAt, nameOf, fillsExactly, isSheetLength, isKindAndCount, isSheet, bodiesAreUtf8}
-use Rattle.params.specs.Get.{firstNamed, withName, ownText, valuePart, valueOr, largest, countedOn, upTo, paramsAt}
+use Rattle.params.specs.Get.{firstNamed, withName, ownText, valuePart, valueOr, largest, countedOn}
+use Rattle.params.specs.Carried.{upTo, paramsAt}
 use Rattle.params.proofs.Contents.{either-width}
 use Rattle.params.proofs.Sheets.{place-entry, body-up-to, bodies-start, lengths-before}
 

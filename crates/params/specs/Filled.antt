@@ -1,8 +1,8 @@
 -- The filled text: all tokens' values, each Placeholder replaced by `Params::get`, whose counter starts at 0.
-use Prim.Native.Nat.{ℕ, _+_, _≤_}
+use Prim.Native.Nat.{ℕ, _+_}
 use mathlib.Core.Bool.{Bool, cond}
 use mathlib.Core.List.{List, [], _∷_, _++_}
-use lib.ListN.{length, take, drop}
+use lib.ListN.{take, drop}
 use Rattle.recognisers.specs.declared.TokenKind.the-variants as K
 use Rattle.recognisers.specs.Kinds.{isKind}
 use Rattle.tokenizer.specs.declared.Settings.{Settings}
@@ -35,11 +35,6 @@ partLength (Sheet start len) = len
 abbrev pub partStart : ℕ × ℕ → ℕ × ℕ → Part → ℕ × ℕ
 partStart s sheet (Statement start len) = (s .0, start + s .1)
 partStart s sheet (Sheet start len) = (sheet .0, start + sheet .1)
-
--- a part lies inside what it is a part of
-abbrev pub PartInside : List ℕ → List ℕ → Part → Type 0
-PartInside s sheet (Statement start len) = start + len ≤ length s
-PartInside s sheet (Sheet start len) = start + len ≤ length sheet
 
 -- the text of these tokens, from a counter on
 unfoldable pub filledFrom : List ℕ → List ℕ → ℕ → List Token → List ℕ

@@ -8,7 +8,6 @@ use Rattle.recognisers.specs.declared.Key.the-variants as K
 use Rattle.reserved.specs.Reserved.{same}
 use Rattle.tokenizer.specs.declared.Token.{Token}
 use Rattle.tokenizer.specs.KeyText.{keyText}
-use Rattle.params.specs.declared.Params.{Params}
 use Rattle.params.specs.declared.Part.{Part}
 use Rattle.params.specs.declared.Part.the-variants as P
 use Rattle.params.specs.declared.Place.{Place}
@@ -81,11 +80,3 @@ indexFrom Q.None s index key = index
 
 unfoldable pub indexPast : List ℕ → List ℕ → ℕ → Key → ℕ
 indexPast s sheet index key = indexFrom (paramsOf sheet) s index key
-
--- ---- the counter, and the place of the value that is next in turn
-
-unfoldable pub upTo : ℕ → ℕ → ℕ
-upTo count n = cond (ltb n count) n count
-
-unfoldable pub paramsAt : List ℕ → ℕ → Params
-paramsAt sheet index = record { index = index; next = placeOf sheet (upTo (countOf sheet) index) }

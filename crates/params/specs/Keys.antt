@@ -1,5 +1,5 @@
 -- What is asked of a token's key.
-use Prim.Native.Nat.{ℕ, _+_}
+use Prim.Native.Nat.{ℕ}
 use mathlib.Core.Bool.{Bool, true, false}
 use mathlib.Core.List.{List}
 use lib.Dec.{ltb}
@@ -26,11 +26,3 @@ hasNoIndex (Named start len) = true
 hasNoIndex (Escaped start len) = true
 hasNoIndex (ZeroIndexed n) = false
 hasNoIndex (OneIndexed n) = false
-
--- where the bytes of a key's text end, with the closing quote where escapes are to be undone
-abbrev pub keyEnd : Key → ℕ
-keyEnd None = 0
-keyEnd (Named start len) = start + len
-keyEnd (Escaped start len) = start + len + 1
-keyEnd (ZeroIndexed n) = 0
-keyEnd (OneIndexed n) = 0

@@ -4,3 +4,5 @@ pub mod Keys
 pub mod Get
 pub mod Filled
 pub mod Answers
+pub mod Carried
+pub mod Inside

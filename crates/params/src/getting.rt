@@ -20,8 +20,10 @@ ghost use mathlib.Core.Bool.{true, cond};
 ghost use Prim.Native.Nat.{_≤_};
 ghost use lib.ListN.{length};
 ghost use Rattle.params.specs.Sheet.{countOf, isSheet};
-ghost use Rattle.params.specs.Keys.{hasName, hasNoIndex, keyEnd};
-ghost use Rattle.params.specs.Get.{byName, byIndex, valueOr, get, countedOn, indexPast, paramsAt};
+ghost use Rattle.params.specs.Keys.{hasName, hasNoIndex};
+ghost use Rattle.params.specs.Inside.{keyEnd};
+ghost use Rattle.params.specs.Get.{byName, byIndex, valueOr, get, countedOn, indexPast};
+ghost use Rattle.params.specs.Carried.{paramsAt};
 ghost use Rattle.params.specs.Filled.{standsFor, indexAfter};
 
 fn get_named(statement: &[u8], sheet: &[u8], token: Token) -> Part

@@ -10,7 +10,8 @@ ghost use Rattle.recognisers.specs.Text.{byte};
 ghost use Rattle.recognisers.specs.Taking.{startsWith};
 ghost use Rattle.reserved.specs.Reserved.{same};
 ghost use Rattle.tokenizer.specs.KeyText.{unescaped, keyText};
-ghost use Rattle.params.specs.Keys.{hasKey, hasName, keyEnd};
+ghost use Rattle.params.specs.Keys.{hasKey, hasName};
+ghost use Rattle.params.specs.Inside.{keyEnd};
 
 // A backslash directly before the quote.
 fn is_escape(text: &[u8], i: usize, quote: u8) -> bool

@@ -21,8 +21,8 @@ ghost use mathlib.Core.Bool.{true};
 ghost use Prim.Native.Nat.{_≤_};
 ghost use lib.ListN.{length};
 ghost use Rattle.params.specs.Sheet.{isSheet};
-ghost use Rattle.params.specs.Keys.{keyEnd};
-ghost use Rattle.params.specs.Filled.{standsFor, indexAfter, partBytes, partLength, partStart, PartInside};
+ghost use Rattle.params.specs.Inside.{keyEnd, PartInside};
+ghost use Rattle.params.specs.Filled.{standsFor, indexAfter, partBytes, partLength, partStart};
 ghost use Rattle.params.specs.Answers.{nothingFound, foundAt, lookupFound, lookupNumber, lookupDetail};
 
 // The empty start of the statement.

@@ -5,7 +5,8 @@ ghost use mathlib.Core.Path.{_≡_};
 ghost use Prim.Native.Nat.{_+_, _≤_};
 ghost use lib.ListN.{length};
 ghost use lib.Seq.{sets};
-ghost use Rattle.params.specs.Filled.{partBytes, partLength, partStart, PartInside};
+ghost use Rattle.params.specs.Filled.{partBytes, partLength, partStart};
+ghost use Rattle.params.specs.Inside.{PartInside};
 
 pub fn part_length(part: Part) -> usize
     ensures { λ r. ⌜ r ≡ partLength part ⌝ }
