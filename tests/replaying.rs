@@ -70,6 +70,17 @@ pub fn unpacked(answer: u64) -> [u64; 2] {
     [answer >> 56, answer & ((1 << 56) - 1)]
 }
 
+// The bytes past an output that are looked at.
+pub const PAST: usize = 64;
+
+// A call that writes a text, and what it must answer and write.
+pub struct TextCall {
+    pub line: usize,
+    pub settings: Vec<u64>,
+    pub answer: Vec<u64>,
+    pub text: Vec<u8>,
+}
+
 pub struct Count {
     passed: usize,
     failed: usize,
@@ -87,6 +98,17 @@ impl Count {
             self.failed += 1;
             println!("line {}: {}", line, what());
         }
+    }
+
+    // What a call that writes a text answered and wrote: the output's first `lent` bytes were lent, and all held GUARD.
+    pub fn check_text(&mut self, call: &TextCall, [number, detail]: [u64; 2], output: &[u8], lent: usize) {
+        let answered = [number, detail] == call.answer[..];
+        self.check(call.line, answered, || format!("answered {} {}, not {:?}", number, detail, call.answer));
+        let end = call.text.len();
+        let written = end <= lent && output[..end] == call.text[..];
+        self.check(call.line, written, || format!("the text is not {:?}", String::from_utf8_lossy(&call.text)));
+        let kept = end <= lent && output[end..].iter().all(|b| *b == GUARD);
+        self.check(call.line, kept, || "a byte past the text was written".to_string());
     }
 
     // All checks of a file are one test.

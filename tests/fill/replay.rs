@@ -3,24 +3,13 @@
 #[path = "../replaying.rs"]
 mod replaying;
 
-use replaying::{continued, hexadecimal, marked, numbers, repeated, unescape, unpacked, Count, GUARD};
+use replaying::{continued, hexadecimal, marked, numbers, repeated, unescape, unpacked, Count, TextCall, GUARD, PAST};
 
 extern "C" {
     fn ventpeeler_fill(
         statement: *const u8, statement_len: usize, dialect: u64, joins: u64, named: u64,
         sheet: *const u8, sheet_len: usize, output: *mut u8, output_len: usize,
     ) -> u64;
-}
-
-// The bytes past the output that are looked at.
-const PAST: usize = 64;
-
-// One call, and what it must answer and write.
-struct Call {
-    line: usize,
-    settings: Vec<u64>,
-    answer: Vec<u64>,
-    text: Vec<u8>,
 }
 
 struct Replay {
@@ -31,23 +20,17 @@ struct Replay {
 }
 
 impl Replay {
-    fn run(&mut self, call: Call) {
+    fn run(&mut self, call: TextCall) {
         let lent = call.settings[3] as usize;
         self.output.resize(lent + PAST, GUARD);
         let s = &call.settings;
-        let [number, detail] = unpacked(unsafe {
+        let answer = unpacked(unsafe {
             ventpeeler_fill(
                 self.statement.as_ptr(), self.statement.len(), s[0], s[1], s[2],
                 self.sheet.as_ptr(), self.sheet.len(), self.output.as_mut_ptr(), lent,
             )
         });
-        let answered = [number, detail] == call.answer[..];
-        self.count.check(call.line, answered, || format!("answered {} {}, not {:?}", number, detail, call.answer));
-        let end = call.text.len();
-        let written = end <= lent && self.output[..end] == call.text[..];
-        self.count.check(call.line, written, || format!("the text is not {:?}", String::from_utf8_lossy(&call.text)));
-        let kept = end <= lent && self.output[end..].iter().all(|b| *b == GUARD);
-        self.count.check(call.line, kept, || "a byte past the text was written".to_string());
+        self.count.check_text(&call, answer, &self.output, lent);
         self.output.fill(GUARD);
     }
 }
@@ -56,7 +39,7 @@ fn main() {
     let file = replaying::vectors("tests/vectors/fill.txt");
     let mut replay = Replay { sheet: Vec::new(), statement: Vec::new(), output: Vec::new(), count: Count::new() };
     let mut settings = vec![0; 4];
-    let mut pending: Option<Call> = None;
+    let mut pending: Option<TextCall> = None;
     for (i, line) in file.lines().enumerate() {
         let (mark, rest) = marked(line);
         if mark != "t" && mark != "g" {
@@ -71,7 +54,7 @@ fn main() {
             "f" => replay.statement = repeated(rest),
             "o" => settings = numbers(rest),
             "=" => {
-                pending = Some(Call { line: i + 1, settings: settings.clone(), answer: numbers(rest), text: Vec::new() })
+                pending = Some(TextCall { line: i + 1, settings: settings.clone(), answer: numbers(rest), text: Vec::new() })
             }
             "t" => pending.as_mut().unwrap().text = unescape(rest),
             "g" => pending.as_mut().unwrap().text = repeated(rest),
