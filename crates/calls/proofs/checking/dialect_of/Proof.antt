@@ -1,7 +1,7 @@
 use borrow.Author.Tests.{eq-eqb, ne-eqb, le-leb, lt-leb}
-use Rattle.tokenizer.specs.Answers.{dialectOf}
-use Rattle.tokenizer.proofs.tokenizing.dialect_of.Statement.{statement}
-use Rattle.tokenizer.proofs.tokenizing.dialect_of.Tie as tie
+use Rattle.calls.specs.Settings.{dialectOf}
+use Rattle.calls.proofs.checking.dialect_of.Statement.{statement}
+use Rattle.calls.proofs.checking.dialect_of.Tie as tie
 
 returns : tie.Need-returns
 unfolding dialectOf

@@ -1,7 +1,7 @@
 use borrow.Author.Needs.{needs}
-use Rattle.tokenizer.proofs.Answering.{overlong-refused, ill-formed-refused, text-accepted}
-use Rattle.tokenizer.proofs.tokenizing.check_text.Statement.{statement}
-use Rattle.tokenizer.proofs.tokenizing.check_text.Tie as tie
+use Rattle.calls.proofs.Checks.{overlong-refused, ill-formed-refused, text-accepted}
+use Rattle.calls.proofs.checking.check_text.Statement.{statement}
+use Rattle.calls.proofs.checking.check_text.Tie as tie
 
 returns : tie.Need-returns
 returns c = search overlong-refused

@@ -1,8 +1,8 @@
 use borrow.Author.Tests.{eq-eqb, ne-eqb, le-leb, lt-leb}
 use borrow.Author.Needs.{needs}
-use Rattle.tokenizer.specs.Answers.{settingsOf}
-use Rattle.tokenizer.proofs.tokenizing.settings_of.Statement.{statement}
-use Rattle.tokenizer.proofs.tokenizing.settings_of.Tie as tie
+use Rattle.calls.specs.Settings.{settingsOf}
+use Rattle.calls.proofs.checking.settings_of.Statement.{statement}
+use Rattle.calls.proofs.checking.settings_of.Tie as tie
 
 dialect-of-requires : tie.Need-dialect-of-requires
 dialect-of-requires c κs = search needs

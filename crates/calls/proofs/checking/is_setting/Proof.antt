@@ -1,7 +1,7 @@
 use borrow.Author.Tests.{le-leb, lt-leb}
-use Rattle.tokenizer.specs.Answers.{isSetting}
-use Rattle.tokenizer.proofs.tokenizing.is_setting.Statement.{statement}
-use Rattle.tokenizer.proofs.tokenizing.is_setting.Tie as tie
+use Rattle.calls.specs.Settings.{isSetting}
+use Rattle.calls.proofs.checking.is_setting.Statement.{statement}
+use Rattle.calls.proofs.checking.is_setting.Tie as tie
 
 returns : tie.Need-returns
 unfolding isSetting

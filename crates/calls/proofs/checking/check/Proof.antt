@@ -1,7 +1,7 @@
 use borrow.Author.Needs.{needs}
-use Rattle.tokenizer.proofs.Answering.{setting-refused, setting-accepted}
-use Rattle.tokenizer.proofs.tokenizing.check.Statement.{statement}
-use Rattle.tokenizer.proofs.tokenizing.check.Tie as tie
+use Rattle.calls.proofs.Checks.{setting-refused, setting-accepted}
+use Rattle.calls.proofs.checking.check.Statement.{statement}
+use Rattle.calls.proofs.checking.check.Tie as tie
 
 is-setting-requires : tie.Need-is-setting-requires
 is-setting-requires c κs = search needs

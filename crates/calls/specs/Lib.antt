@@ -1,0 +1,6 @@
+-- What every call shares.
+pub mod Settings
+pub mod Refusals
+pub mod Checks
+pub mod Texts
+pub mod LittleEndian
