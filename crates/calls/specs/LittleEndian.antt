@@ -12,3 +12,7 @@ lowBytes (suc width) n = n % 256 ∷ lowBytes width (n / 256)
 unfoldable pub numberAt : ℕ → List ℕ → ℕ → ℕ
 numberAt zero s at = 0
 numberAt (suc width) s at = getD s at 0 + 256 * numberAt width s (at + 1)
+
+-- a number of 32 bits
+abbrev pub le32 : ℕ → List ℕ
+le32 n = lowBytes 4 n

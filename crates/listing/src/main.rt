@@ -3,9 +3,9 @@
 use libc::STDIN_FILENO;
 use libc::STDOUT_FILENO;
 use tokenizer::Answer;
-use tokenizer::Checked;
+use calls::Checked;
 use tokenizer::KeyWords;
-use tokenizer::Settings;
+use calls::Settings;
 use tokenizer::Step;
 use tokenizer::Token;
 ghost use mathlib.Core.Path.{_≡_};

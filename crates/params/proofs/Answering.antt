@@ -10,9 +10,9 @@ use lib.Dec.{ltb}
 use lib.ListN.{length}
 use Rattle.tokenizer.specs.declared.Answer.{Answer}
 use Rattle.tokenizer.specs.declared.Answer.the-variants as A
-use Rattle.tokenizer.specs.declared.Checked.{Checked}
-use Rattle.tokenizer.specs.declared.Checked.the-variants.{Accepted, Refused}
-use Rattle.tokenizer.specs.declared.Settings.{Settings}
+use Rattle.calls.specs.declared.Checked.{Checked}
+use Rattle.calls.specs.declared.Checked.the-variants.{Accepted, Refused}
+use Rattle.calls.specs.declared.Settings.{Settings}
 use Rattle.tokenizer.specs.Answers.{answerNumber, isSetting, settingsOf, longest, checkedText, checked}
 use Rattle.tight.specs.Answers.{textAnswer, textAfter}
 use Rattle.tight.proofs.Answering.{Told, refusal-told, text-inside, text-long}

@@ -7,8 +7,8 @@ use mathlib.Core.Bool.{false}
 use mathlib.Core.List.{List, [], _∷_, _++_}
 use lib.ListN.{length, drop}
 use lib.Seq.{drop-drop}
-use Rattle.tokenizer.specs.declared.Checked.the-variants.{Accepted}
-use Rattle.tokenizer.specs.declared.Settings.{Settings}
+use Rattle.calls.specs.declared.Checked.the-variants.{Accepted}
+use Rattle.calls.specs.declared.Settings.{Settings}
 use Rattle.tokenizer.specs.declared.Token.{Token}
 use Rattle.tokenizer.specs.Tokens.{tokens}
 use Rattle.tight.specs.Answers.{textAnswer, textAfter}

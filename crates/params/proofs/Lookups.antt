@@ -8,17 +8,17 @@ use mathlib.Core.List.{List, _∷_}
 use lib.ListN.{length, take, drop}
 use lib.Seq.{drop-nil}
 use Rattle.tokenizer.specs.declared.Answer.{Answer}
-use Rattle.tokenizer.specs.declared.Checked.{Checked}
-use Rattle.tokenizer.specs.declared.Checked.the-variants.{Accepted, Refused}
+use Rattle.calls.specs.declared.Checked.{Checked}
+use Rattle.calls.specs.declared.Checked.the-variants.{Accepted, Refused}
 use Rattle.tokenizer.specs.declared.Cursor.{Cursor}
-use Rattle.tokenizer.specs.declared.Settings.{Settings}
+use Rattle.calls.specs.declared.Settings.{Settings}
 use Rattle.tokenizer.specs.declared.Step.{Step}
 use Rattle.tokenizer.specs.declared.Step.the-variants as S
 use Rattle.tokenizer.specs.declared.Token.{Token}
 use Rattle.tokenizer.specs.Answers.{answerNumber, answerDetail}
 use Rattle.tokenizer.specs.Memory.{start}
 use Rattle.tokenizer.specs.Tokens.{stepAt, tokens}
-use Rattle.tokenizer.proofs.Walking.{left, step-moves, step-less, step-ends}
+use Rattle.tokenizer.proofs.Steps.{left, step-moves, step-less, step-ends}
 use Rattle.params.specs.declared.Found.{Found}
 use Rattle.params.specs.declared.Params.{Params}
 use Rattle.params.specs.declared.Part.{Part}

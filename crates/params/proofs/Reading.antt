@@ -16,15 +16,15 @@ use Rattle.recognisers.specs.declared.Recognised.{Recognised}
 use Rattle.recognisers.specs.declared.Recognised.the-variants as R
 use Rattle.recognisers.proofs.Sizes.{KeyFits, Sized, Sound}
 use Rattle.tokenizer.specs.declared.Cursor.{Cursor}
-use Rattle.tokenizer.specs.declared.Settings.{Settings}
+use Rattle.calls.specs.declared.Settings.{Settings}
 use Rattle.tokenizer.specs.declared.Step.{Step}
 use Rattle.tokenizer.specs.declared.Step.the-variants as S
 use Rattle.tokenizer.specs.declared.Token.{Token}
 use Rattle.tokenizer.specs.Memory.{remembered}
 use Rattle.tokenizer.specs.NextToken.{nextPiece}
 use Rattle.tokenizer.specs.Tokens.{placed, tokenAt, stepAt}
-use Rattle.tokenizer.proofs.Sizing.{piece-sized}
-use Rattle.tokenizer.proofs.Walking.{step-moves}
+use Rattle.tokenizer.proofs.PieceSizes.{piece-sized}
+use Rattle.tokenizer.proofs.Steps.{step-moves}
 use Rattle.params.specs.declared.Part.{Part}
 use Rattle.params.specs.declared.Part.the-variants as P
 use Rattle.params.specs.Sheet.{countOf, lengthsAt, placeOf, isSheet}

@@ -11,9 +11,9 @@ use lib.Dec.{ltb}
 use Rattle.recognisers.specs.declared.Key.{Key}
 use Rattle.recognisers.specs.declared.Key.the-variants as K
 use Rattle.reserved.specs.Reserved.{same}
-use Rattle.tokenizer.specs.declared.Checked.{Checked}
-use Rattle.tokenizer.specs.declared.Checked.the-variants.{Accepted, Refused}
-use Rattle.tokenizer.specs.declared.Settings.{Settings}
+use Rattle.calls.specs.declared.Checked.{Checked}
+use Rattle.calls.specs.declared.Checked.the-variants.{Accepted, Refused}
+use Rattle.calls.specs.declared.Settings.{Settings}
 use Rattle.tokenizer.specs.declared.Token.{Token}
 use Rattle.tokenizer.specs.Answers.{checked}
 use Rattle.tokenizer.specs.KeyText.{keyText}

@@ -5,9 +5,9 @@ use mathlib.Core.List.{List, [], _∷_}
 use lib.ListN.{drop}
 use Rattle.tokenizer.specs.declared.Answer.{Answer}
 use Rattle.tokenizer.specs.declared.Answer.the-variants as A
-use Rattle.tokenizer.specs.declared.Checked.{Checked}
-use Rattle.tokenizer.specs.declared.Checked.the-variants.{Accepted, Refused}
-use Rattle.tokenizer.specs.declared.Settings.{Settings}
+use Rattle.calls.specs.declared.Checked.{Checked}
+use Rattle.calls.specs.declared.Checked.the-variants.{Accepted, Refused}
+use Rattle.calls.specs.declared.Settings.{Settings}
 use Rattle.tokenizer.specs.declared.Token.{Token}
 use Rattle.tokenizer.specs.Answers.{answerNumber, answerDetail, checked}
 use Rattle.tokenizer.specs.Tokens.{tokens}

@@ -5,7 +5,7 @@ use mathlib.Core.List.{List, [], _∷_, _++_}
 use lib.ListN.{take, drop}
 use Rattle.recognisers.specs.declared.TokenKind.the-variants as K
 use Rattle.recognisers.specs.Kinds.{isKind}
-use Rattle.tokenizer.specs.declared.Settings.{Settings}
+use Rattle.calls.specs.declared.Settings.{Settings}
 use Rattle.tokenizer.specs.declared.Token.{Token}
 use Rattle.tokenizer.specs.Tokens.{tokens}
 use Rattle.params.specs.declared.Part.{Part}

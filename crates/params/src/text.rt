@@ -6,7 +6,7 @@ use crate::getting::stands_for;
 use crate::parts::part_length;
 use crate::parts::put_part;
 use crate::places::params_at;
-use tokenizer::Settings;
+use calls::Settings;
 use tokenizer::Step;
 use tokenizer::Token;
 use tokenizer::at_start;

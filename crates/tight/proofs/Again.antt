@@ -20,10 +20,10 @@ use Rattle.recognisers.specs.declared.TokenKind.the-variants as K
 use Rattle.recognisers.specs.Kinds.{isKind}
 use Rattle.recognisers.proofs.Sizes.{KeyFits, Sized, Sound}
 use Rattle.tokenizer.specs.declared.Memory.{Memory}
-use Rattle.tokenizer.specs.declared.Settings.{Settings}
+use Rattle.calls.specs.declared.Settings.{Settings}
 use Rattle.tokenizer.specs.NextToken.{nextPiece}
 use Rattle.tokenizer.specs.Tokens.{givenOut}
-use Rattle.tokenizer.proofs.Sizing.{piece-sized}
+use Rattle.tokenizer.proofs.PieceSizes.{piece-sized}
 use Rattle.tokenizer.proofs.EndToEnd.{Recognises, piece-recognised}
 use Rattle.tight.specs.declared.Gap.the-variants.{Nothing}
 use Rattle.tight.specs.TightText.{gapAfter, gapBytes}

@@ -9,7 +9,7 @@ use Rattle.recognisers.specs.declared.Dialect.the-variants.{Generic}
 use Rattle.recognisers.specs.declared.TokenKind.{TokenKind}
 use Rattle.recognisers.specs.declared.TokenKind.the-variants as K
 use Rattle.recognisers.specs.Text.{bytes}
-use Rattle.tokenizer.specs.declared.Settings.{Settings}
+use Rattle.calls.specs.declared.Settings.{Settings}
 use Rattle.unicode.specs.Alphabetic.{alphabetic}
 use Rattle.unicode.specs.Character.{isContinuation, continuations, continued, firstBits, withBits, characterLength, codePoint, character}
 use Rattle.unicode.specs.Classes.{isWhitespace, isAlphabetic, isNumeric, isMark, isPunctuationConnector, isAlphanumeric, isWordCharacter, isPlaceholderNameCharacter}

@@ -11,7 +11,7 @@ use mir.Syntax.{w64}
 use mir.Val.{Fits}
 use Rattle.tokenizer.specs.declared.Token.{Token}
 use Rattle.tokenizer.specs.Values.{value}
-use Rattle.tokenizer.proofs.Storing.{both-put}
+use Rattle.tokenizer.proofs.RecordBytes.{both-put}
 use Rattle.tight.specs.declared.Gap.{Gap}
 use Rattle.tight.specs.declared.Gap.the-variants.{Nothing, LineFeed, Space}
 use Rattle.tight.specs.declared.Spacing.{Spacing}

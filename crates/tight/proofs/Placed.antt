@@ -11,7 +11,7 @@ use borrow.Author.Tests.{ne-eqb}
 use Rattle.unicode.specs.Classes.{isWhitespace}
 use Rattle.unicode.specs.Runs.{run}
 use Rattle.tokenizer.specs.declared.Memory.{Memory}
-use Rattle.tokenizer.specs.declared.Settings.{Settings}
+use Rattle.calls.specs.declared.Settings.{Settings}
 use Rattle.tokenizer.specs.Memory.{start}
 use Rattle.tight.specs.Agree.{Compared, reading, isGap, words, innerGaps, Agree}
 use Rattle.tight.proofs.Whitespace.{isBlank, none-blank}

@@ -24,7 +24,7 @@ use Rattle.recognisers.specs.Kinds.{kindNumber, isKind}
 use Rattle.recognisers.specs.Pieces.{piece}
 use Rattle.recognisers.specs.Words.{getWhitespaceToken}
 use Rattle.tokenizer.specs.declared.Memory.{Memory}
-use Rattle.tokenizer.specs.declared.Settings.{Settings}
+use Rattle.calls.specs.declared.Settings.{Settings}
 use Rattle.tokenizer.specs.declared.Token.{Token}
 use Rattle.tokenizer.specs.Memory.{start, remembered}
 use Rattle.tokenizer.specs.NextToken.{getNextToken, nextPiece}

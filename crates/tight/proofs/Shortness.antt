@@ -6,12 +6,12 @@ use mathlib.Core.Path.{_≡_, refl}
 use mathlib.Core.List.{List}
 use lib.ListN.{length, length-append}
 use Rattle.tokenizer.specs.declared.Cursor.{Cursor}
-use Rattle.tokenizer.specs.declared.Settings.{Settings}
+use Rattle.calls.specs.declared.Settings.{Settings}
 use Rattle.tokenizer.specs.declared.Step.{Step}
 use Rattle.tokenizer.specs.declared.Step.the-variants as S
 use Rattle.tokenizer.specs.Memory.{start}
 use Rattle.tokenizer.specs.Tokens.{stepAt, tokens}
-use Rattle.tokenizer.proofs.Walking.{left, step-moves, step-ends}
+use Rattle.tokenizer.proofs.Steps.{left, step-moves, step-ends}
 use Rattle.tight.specs.declared.Spacing.{Spacing}
 use Rattle.tight.specs.TightText.{gapBytes, tightFrom, tight}
 use Rattle.tight.specs.Parts.{outside, spacingPast}

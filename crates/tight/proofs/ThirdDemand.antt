@@ -8,8 +8,8 @@ use mathlib.Core.Bool.{true}
 use mathlib.Core.List.{List}
 use mathlib.Core.Logic.{_↔_}
 use mathlib.Core.Path.{_≡_, sym, ap, _∙_}
-use Rattle.tokenizer.specs.declared.Checked.the-variants.{Accepted}
-use Rattle.tokenizer.specs.declared.Settings.{Settings}
+use Rattle.calls.specs.declared.Checked.the-variants.{Accepted}
+use Rattle.calls.specs.declared.Settings.{Settings}
 use Rattle.tokenizer.specs.Answers.{checked}
 use Rattle.tokenizer.specs.Memory.{start}
 use Rattle.tight.specs.TightText.{tight}

@@ -22,9 +22,9 @@ use Rattle.recognisers.specs.declared.TokenKind.{TokenKind}
 use Rattle.recognisers.proofs.Boundaries.{Bounded}
 use Rattle.tokenizer.specs.declared.Answer.{Answer}
 use Rattle.tokenizer.specs.declared.Answer.the-variants as A
-use Rattle.tokenizer.specs.declared.Checked.the-variants.{Accepted, Refused}
+use Rattle.calls.specs.declared.Checked.the-variants.{Accepted, Refused}
 use Rattle.tokenizer.specs.declared.Memory.{Memory}
-use Rattle.tokenizer.specs.declared.Settings.{Settings}
+use Rattle.calls.specs.declared.Settings.{Settings}
 use Rattle.tokenizer.specs.Answers.{isSetting, settingsOf, longest, whenUtf8, checkedText, checked}
 use Rattle.tokenizer.specs.Memory.{start}
 use Rattle.tokenizer.specs.Tokens.{givenOut}

@@ -9,7 +9,7 @@ use Rattle.recognisers.specs.declared.Key.the-variants.{None, Named, Escaped, Z
 use Rattle.recognisers.specs.declared.TokenKind.{TokenKind}
 use Rattle.recognisers.specs.declared.TokenKind.the-variants as K
 use Rattle.recognisers.specs.Kinds.{isKind}
-use Rattle.tokenizer.specs.declared.Settings.{Settings}
+use Rattle.calls.specs.declared.Settings.{Settings}
 use Rattle.tokenizer.specs.declared.Token.{Token}
 use Rattle.tokenizer.specs.KeyText.{keyText}
 use Rattle.tokenizer.specs.Tokens.{tokens}

@@ -6,7 +6,7 @@ use Rattle.recognisers.specs.declared.TokenKind.{TokenKind}
 use Rattle.recognisers.specs.declared.TokenKind.the-variants as K
 use Rattle.recognisers.specs.Kinds.{isKind}
 use Rattle.recognisers.specs.Text.{byte}
-use Rattle.tokenizer.specs.declared.Settings.{Settings}
+use Rattle.calls.specs.declared.Settings.{Settings}
 use Rattle.tokenizer.specs.declared.Token.{Token}
 use Rattle.tokenizer.specs.Tokens.{tokens}
 use Rattle.tokenizer.specs.Values.{value}

@@ -3,7 +3,7 @@ use crate::gaps::before_first;
 use crate::gaps::spacing_past;
 use crate::parts::part_length;
 use crate::parts::put_part;
-use tokenizer::Settings;
+use calls::Settings;
 use tokenizer::Step;
 use tokenizer::at_start;
 use tokenizer::next_step;

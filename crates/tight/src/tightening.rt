@@ -2,9 +2,9 @@
 use crate::text::tight_length;
 use crate::text::write_tight;
 use tokenizer::Answer;
-use tokenizer::Checked;
-use tokenizer::Settings;
-use tokenizer::check;
+use calls::Checked;
+use calls::Settings;
+use calls::check;
 ghost use mathlib.Core.Path.{_≡_};
 ghost use lib.ListN.{length};
 ghost use Rattle.tight.specs.TightText.{tight};

@@ -15,14 +15,14 @@ use Rattle.recognisers.specs.declared.TokenKind.the-variants
 use Rattle.recognisers.specs.Kinds.{kindNumber}
 use Rattle.recognisers.proofs.Sizes.{KeyFits, Sized}
 use Rattle.tokenizer.specs.declared.Memory.{Memory}
-use Rattle.tokenizer.specs.declared.Settings.{Settings}
+use Rattle.calls.specs.declared.Settings.{Settings}
+use Rattle.calls.specs.Checks.{longest}
 use Rattle.tokenizer.specs.declared.Token.{Token}
-use Rattle.tokenizer.specs.Answers.{longest}
 use Rattle.tokenizer.specs.NextToken.{nextPiece}
 use Rattle.tokenizer.specs.Records.{keyWords}
 use Rattle.tokenizer.specs.Tokens.{givenOut, placed, tokens}
-use Rattle.tokenizer.proofs.Each.{Each, each-token}
-use Rattle.tokenizer.proofs.Sizing.{piece-sized}
+use Rattle.tokenizer.proofs.EachToken.{Each, each-token}
+use Rattle.tokenizer.proofs.PieceSizes.{piece-sized}
 
 never-join : (joins : Bool) (kind : TokenKind) → kindNumber (givenOut joins kind) < 16
 unfolding givenOut

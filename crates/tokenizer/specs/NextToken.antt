@@ -12,7 +12,7 @@ use Rattle.recognisers.specs.Placeholder.{getPlaceholderToken}
 use Rattle.recognisers.specs.Words.{getWhitespaceToken, getOperatorToken, getWordToken, getAnyOtherChar}
 use Rattle.reserved.specs.Reserved.{getReservedWordToken}
 use Rattle.tokenizer.specs.declared.Memory.{Memory}
-use Rattle.tokenizer.specs.declared.Settings.{Settings}
+use Rattle.calls.specs.declared.Settings.{Settings}
 
 -- the alternatives from one recogniser on, the last first
 unfoldable pub fromWord : List ℕ → Recognised

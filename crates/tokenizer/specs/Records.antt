@@ -5,12 +5,9 @@ use lib.ListN.{length, drop}
 use Rattle.recognisers.specs.declared.Key.{Key}
 use Rattle.recognisers.specs.declared.Key.the-variants.{None, Named, Escaped, ZeroIndexed, OneIndexed}
 use Rattle.recognisers.specs.Kinds.{kindNumber}
+use Rattle.calls.specs.LittleEndian.{le32}
 use Rattle.tokenizer.specs.declared.KeyWords.{KeyWords}
 use Rattle.tokenizer.specs.declared.Token.{Token}
-
--- one word
-unfoldable pub le32 : ℕ → List ℕ
-le32 n = n % 256 ∷ n / 256 % 256 ∷ n / 65536 % 256 ∷ n / 16777216 % 256 ∷ []
 
 -- key kind, key a and key b; a number's high and low half
 abbrev pub keyWords : Key → KeyWords

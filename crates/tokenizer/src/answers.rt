@@ -1,32 +1,24 @@
-// What a caller is told, as two numbers.
-use crate::Answer;
+// The answer of `tokenize`, as two numbers.
+use crate::TableAnswer;
+use calls::refusal_detail;
+use calls::refusal_number;
 ghost use mathlib.Core.Path.{_≡_};
-ghost use Rattle.tokenizer.specs.Answers.{answerNumber, answerDetail};
+ghost use Rattle.tokenizer.specs.Answers.{tableNumber, tableDetail};
 
-pub fn answer_number(answer: Answer) -> u64
-    ensures { λ r. ⌜ r ≡ answerNumber answer ⌝ }
+pub fn table_number(answer: TableAnswer) -> u64
+    ensures { λ r. ⌜ r ≡ tableNumber answer ⌝ }
 {
     match answer {
-        Answer::Done(_) => 0,
-        Answer::Overlong(_) => 1,
-        Answer::NotUtf8(_) => 2,
-        Answer::Setting => 3,
-        Answer::TableFull(_) => 4,
-        Answer::Sheet => 5,
-        Answer::OutputFull(_) => 6,
+        TableAnswer::Written(_) => 0,
+        TableAnswer::Refused(refusal) => refusal_number(refusal),
     }
 }
 
-pub fn answer_detail(answer: Answer) -> u64
-    ensures { λ r. ⌜ r ≡ answerDetail answer ⌝ }
+pub fn table_detail(answer: TableAnswer) -> u64
+    ensures { λ r. ⌜ r ≡ tableDetail answer ⌝ }
 {
     match answer {
-        Answer::Done(n) => n,
-        Answer::Overlong(n) => n,
-        Answer::NotUtf8(n) => n,
-        Answer::Setting => 0,
-        Answer::TableFull(n) => n,
-        Answer::Sheet => 0,
-        Answer::OutputFull(n) => n,
+        TableAnswer::Written(n) => n,
+        TableAnswer::Refused(refusal) => refusal_detail(refusal),
     }
 }

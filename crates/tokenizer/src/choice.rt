@@ -1,6 +1,6 @@
 // `get_next_token`: one ordered choice, each function the rest of it from one recogniser on.
 use crate::Memory;
-use crate::Settings;
+use calls::Settings;
 use recognisers::Recognised;
 use recognisers::get_any_other_char;
 use recognisers::get_close_paren_token;

@@ -1,5 +1,5 @@
 // src/tokenizer.rs: the tokens of a statement, one step at a time and as a table of records.
-use recognisers::Dialect;
+use calls::Refusal;
 use recognisers::Key;
 use recognisers::TokenKind;
 use reserved::TopLevel;
@@ -12,15 +12,14 @@ mod stepping;
 mod table;
 mod tokenizing;
 
-pub use answers::answer_detail;
-pub use answers::answer_number;
+pub use answers::table_detail;
+pub use answers::table_number;
 pub use records::key_words;
 pub use remembering::is_kind;
 pub use remembering::kind_number;
+pub use stepping::at_start;
 pub use stepping::next_step;
-pub use table::at_start;
 pub use table::count_tokens;
-pub use tokenizing::check;
 pub use tokenizing::tokenize;
 
 // What is asked of earlier tokens: may a type specifier stand here, is the last non-whitespace token's value `.`, is the last
@@ -30,12 +29,6 @@ pub struct Memory {
     pub after_dot: bool,
     pub after_between: bool,
     pub top_level: TopLevel,
-}
-
-pub struct Settings {
-    pub dialect: Dialect,
-    pub joins: bool,
-    pub named: bool,
 }
 
 // A token of a statement: start, length and alias length in bytes, and a key whose places count from the statement's start.
@@ -58,21 +51,10 @@ pub enum Step {
     Done,
 }
 
-// What a caller is told.
-pub enum Answer {
-    Done(u64),
-    Overlong(u64),
-    NotUtf8(u64),
-    Setting,
-    TableFull(u64),
-    Sheet,
-    OutputFull(u64),
-}
-
-// A statement under settings, accepted or refused.
-pub enum Checked {
-    Accepted(Settings),
-    Refused(Answer),
+// What `tokenize` answers: how many records it wrote.
+pub enum TableAnswer {
+    Written(u64),
+    Refused(Refusal),
 }
 
 // The last three words of a record.

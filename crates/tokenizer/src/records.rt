@@ -2,28 +2,13 @@
 use crate::KeyWords;
 use crate::Token;
 use crate::remembering::kind_number;
+use calls::put_le32;
 use recognisers::Key;
 ghost use mathlib.Core.Path.{_≡_};
-ghost use Prim.Native.Nat.{_+_, _%_, _≤_};
+ghost use Prim.Native.Nat.{_+_, _≤_};
 ghost use lib.ListN.{length};
 ghost use lib.Seq.{sets};
-ghost use Rattle.tokenizer.specs.Records.{le32, keyWords, placeBytes, keyBytes, recordOf};
-
-fn low_byte(word: u64) -> u8
-    ensures { λ r. ⌜ r ≡ word % 256 ⌝ }
-{
-    (word % 256) as u8
-}
-
-fn put_word(table: &mut [u8], at: usize, word: u64)
-    requires { ⌜ at + 4 ≤ length (now table) ⌝ }
-    ensures { λ _. ⌜ now (table .exit) ≡ sets (now (table .entry)) at (le32 word) ⌝ }
-{
-    table[at] = low_byte(word);
-    table[at + 1] = low_byte(word / 256);
-    table[at + 2] = low_byte(word / 65536);
-    table[at + 3] = low_byte(word / 16777216);
-}
+ghost use Rattle.tokenizer.specs.Records.{keyWords, placeBytes, keyBytes, recordOf};
 
 pub fn key_words(key: Key) -> KeyWords
     ensures { λ r. ⌜ r ≡ keyWords key ⌝ }
@@ -61,19 +46,19 @@ fn put_place(table: &mut [u8], at: usize, kind: u64, start: usize, len: usize, a
     requires { ⌜ at + 16 ≤ length (now table) ⌝ }
     ensures { λ _. ⌜ now (table .exit) ≡ sets (now (table .entry)) at (placeBytes kind start len alias) ⌝ }
 {
-    put_word(table, at, kind);
-    put_word(table, at + 4, start as u64);
-    put_word(table, at + 8, len as u64);
-    put_word(table, at + 12, alias as u64);
+    put_le32(table, at, kind);
+    put_le32(table, at + 4, start as u64);
+    put_le32(table, at + 8, len as u64);
+    put_le32(table, at + 12, alias as u64);
 }
 
 fn put_key(table: &mut [u8], at: usize, key: KeyWords)
     requires { ⌜ at + 12 ≤ length (now table) ⌝ }
     ensures { λ _. ⌜ now (table .exit) ≡ sets (now (table .entry)) at (keyBytes key) ⌝ }
 {
-    put_word(table, at, key.kind);
-    put_word(table, at + 4, key.a);
-    put_word(table, at + 8, key.b);
+    put_le32(table, at, key.kind);
+    put_le32(table, at + 4, key.a);
+    put_le32(table, at + 8, key.b);
 }
 
 pub fn put_record(table: &mut [u8], at: usize, token: Token)

@@ -1,18 +1,36 @@
 // One step of reading.
 use crate::Cursor;
-use crate::Settings;
+use crate::Memory;
 use crate::Step;
 use crate::Token;
 use crate::choice::next_piece;
 use crate::remembering::is_kind;
 use crate::remembering::remember_piece;
+use calls::Settings;
 use recognisers::Key;
 use recognisers::Recognised;
 use recognisers::TokenKind;
+use reserved::TopLevel;
 ghost use mathlib.Core.Path.{_≡_};
 ghost use Prim.Native.Nat.{_+_, _^_, _<_};
 ghost use Rattle.recognisers.specs.Pieces.{keyStart};
+ghost use Rattle.tokenizer.specs.Memory.{start};
 ghost use Rattle.tokenizer.specs.Tokens.{givenOut, placed, stepAt};
+
+// Before the first token.
+pub fn at_start() -> Cursor
+    ensures { λ r. ⌜ r ≡ record { at = 0; memory = start } ⌝ }
+{
+    Cursor {
+        at: 0,
+        memory: Memory {
+            type_specifier: true,
+            after_dot: false,
+            after_between: false,
+            top_level: TopLevel::Other,
+        },
+    }
+}
 
 // A Join is given out as top level or as a newline word.
 fn given_out(joins: bool, kind: TokenKind) -> TokenKind

@@ -1,34 +1,17 @@
 // The table that a statement's tokens are written to.
-use crate::Answer;
-use crate::Cursor;
-use crate::Memory;
-use crate::Settings;
 use crate::Step;
+use crate::TableAnswer;
 use crate::records::put_record;
+use crate::stepping::at_start;
 use crate::stepping::next_step;
-use reserved::TopLevel;
+use calls::Refusal;
+use calls::Settings;
 ghost use mathlib.Core.Path.{_≡_};
 ghost use Prim.Native.Nat.{_*_, _≤_};
 ghost use lib.ListN.{length};
-ghost use Rattle.tokenizer.specs.Memory.{start};
 ghost use Rattle.tokenizer.specs.Tokens.{tokens};
 ghost use Rattle.tokenizer.specs.Records.{written};
 ghost use Rattle.tokenizer.specs.Answers.{tableAnswer, tableAfter};
-
-// Before the first token.
-pub fn at_start() -> Cursor
-    ensures { λ r. ⌜ r ≡ record { at = 0; memory = start } ⌝ }
-{
-    Cursor {
-        at: 0,
-        memory: Memory {
-            type_specifier: true,
-            after_dot: false,
-            after_between: false,
-            top_level: TopLevel::Other,
-        },
-    }
-}
 
 pub fn count_tokens(statement: &[u8], settings: Settings) -> usize
     ensures { λ r. ⌜ r ≡ length (tokens settings (now (statement .entry))) ⌝ }
@@ -71,24 +54,24 @@ fn write_tokens(statement: &[u8], settings: Settings, table: &mut [u8]) -> usize
 }
 
 // Counts first: where the table is full, nothing may be written.
-fn fill_counted(statement: &[u8], settings: Settings, table: &mut [u8]) -> Answer
+fn write_counted(statement: &[u8], settings: Settings, table: &mut [u8]) -> TableAnswer
     ensures { λ r. ⌜ r ≡ tableAnswer settings (now (statement .entry)) (length (now (table .entry))) ⌝ }
     ensures { λ _. ⌜ now (table .exit) ≡ tableAfter settings (now (statement .entry)) (now (table .entry)) ⌝ }
 {
     let count = count_tokens(statement, settings);
     if table.len() / 28 < count {
-        return Answer::TableFull(count as u64);
+        return TableAnswer::Refused(Refusal::TableFull(count as u64));
     }
-    Answer::Done(write_tokens(statement, settings, table) as u64)
+    TableAnswer::Written(write_tokens(statement, settings, table) as u64)
 }
 
 // With a record for each byte of the statement no table is full, since every token has a byte: one pass is enough.
-pub fn fill_table(statement: &[u8], settings: Settings, table: &mut [u8]) -> Answer
+pub fn write_table(statement: &[u8], settings: Settings, table: &mut [u8]) -> TableAnswer
     ensures { λ r. ⌜ r ≡ tableAnswer settings (now (statement .entry)) (length (now (table .entry))) ⌝ }
     ensures { λ _. ⌜ now (table .exit) ≡ tableAfter settings (now (statement .entry)) (now (table .entry)) ⌝ }
 {
     if table.len() / 28 < statement.len() {
-        return fill_counted(statement, settings, table);
+        return write_counted(statement, settings, table);
     }
-    Answer::Done(write_tokens(statement, settings, table) as u64)
+    TableAnswer::Written(write_tokens(statement, settings, table) as u64)
 }

@@ -1,71 +1,11 @@
-// `tokenize`, and the refusals that all operations share.
-use crate::Answer;
-use crate::Checked;
-use crate::Settings;
-use crate::table::fill_table;
-use recognisers::Dialect;
-use unicode::IllFormed;
-use unicode::first_ill_formed;
+// `tokenize`: the tokens of a statement, into a table that the caller lends.
+use crate::TableAnswer;
+use crate::table::write_table;
+use calls::Checked;
+use calls::check;
 ghost use mathlib.Core.Path.{_≡_};
 ghost use lib.ListN.{length};
-ghost use Rattle.tokenizer.specs.Answers.{isSetting, dialectOf, settingsOf, checkedText, checked, tokenizeAnswer, tokenizeRecords};
-
-fn is_setting(dialect: u64, joins: u64, named: u64) -> bool
-    ensures { λ r. ⌜ r ≡ isSetting dialect joins named ⌝ }
-{
-    if 2 < dialect {
-        return false;
-    }
-    if 1 < joins {
-        return false;
-    }
-    named <= 1
-}
-
-fn dialect_of(dialect: u64) -> Dialect
-    ensures { λ r. ⌜ r ≡ dialectOf dialect ⌝ }
-{
-    if dialect == 0 {
-        return Dialect::Generic;
-    }
-    if dialect == 1 {
-        return Dialect::PostgreSql;
-    }
-    Dialect::SQLServer
-}
-
-fn settings_of(dialect: u64, joins: u64, named: u64) -> Settings
-    ensures { λ r. ⌜ r ≡ settingsOf dialect joins named ⌝ }
-{
-    let read = dialect_of(dialect);
-    Settings {
-        dialect: read,
-        joins: joins == 1,
-        named: named == 1,
-    }
-}
-
-fn check_text(statement: &[u8], settings: Settings) -> Checked
-    ensures { λ r. ⌜ r ≡ checkedText settings (now (statement .entry)) ⌝ }
-{
-    if 65536 < statement.len() {
-        return Checked::Refused(Answer::Overlong(statement.len() as u64));
-    }
-    match first_ill_formed(statement) {
-        IllFormed::At(place) => Checked::Refused(Answer::NotUtf8(place as u64)),
-        IllFormed::Nowhere => Checked::Accepted(settings),
-    }
-}
-
-// Setting, overlong, not UTF-8: the first that applies.
-pub fn check(statement: &[u8], dialect: u64, joins: u64, named: u64) -> Checked
-    ensures { λ r. ⌜ r ≡ checked dialect joins named (now (statement .entry)) ⌝ }
-{
-    if is_setting(dialect, joins, named) {
-        return check_text(statement, settings_of(dialect, joins, named));
-    }
-    Checked::Refused(Answer::Setting)
-}
+ghost use Rattle.tokenizer.specs.Answers.{tokenizeAnswer, tokenizeRecords};
 
 pub fn tokenize(
     statement: &[u8],
@@ -73,12 +13,12 @@ pub fn tokenize(
     joins: u64,
     named: u64,
     records: &mut [u8],
-) -> Answer
+) -> TableAnswer
     ensures { λ r. ⌜ r ≡ tokenizeAnswer (now (statement .entry)) dialect joins named (length (now (records .entry))) ⌝ }
     ensures { λ _. ⌜ now (records .exit) ≡ tokenizeRecords (now (statement .entry)) dialect joins named (now (records .entry)) ⌝ }
 {
     match check(statement, dialect, joins, named) {
-        Checked::Accepted(settings) => fill_table(statement, settings, records),
-        Checked::Refused(answer) => answer,
+        Checked::Accepted(settings) => write_table(statement, settings, records),
+        Checked::Refused(refusal) => TableAnswer::Refused(refusal),
     }
 }

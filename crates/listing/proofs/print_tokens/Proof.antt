@@ -1,7 +1,7 @@
 use Prim.Native.Nat.{_-_}
 use lib.ListN.{length}
 use borrow.Author.Needs.{needs}
-use Rattle.tokenizer.proofs.Walking.{step-less}
+use Rattle.tokenizer.proofs.Steps.{step-less}
 use Rattle.listing.proofs.print_tokens.Statement.{statement}
 use Rattle.listing.proofs.print_tokens.Tie as tie
 

@@ -1,6 +1,6 @@
 use mathlib.Core.Path.{refl}
 use borrow.Author.Needs.{needs}
-use Rattle.tokenizer.proofs.Storing.{named-words, escaped-words, zero-words, one-words}
+use Rattle.tokenizer.proofs.RecordBytes.{named-words, escaped-words, zero-words, one-words}
 use Rattle.tokenizer.proofs.records.key_words.Statement.{statement}
 use Rattle.tokenizer.proofs.records.key_words.Tie as tie
 

@@ -1,22 +1,22 @@
 use borrow.Author.Needs.{needs}
-use Rattle.tokenizer.proofs.Storing.{key-put}
+use Rattle.tokenizer.proofs.RecordBytes.{key-put}
 use Rattle.tokenizer.proofs.records.put_key.Statement.{statement}
 use Rattle.tokenizer.proofs.records.put_key.Tie as tie
 
-put-word-requires : tie.Need-put-word-requires
-put-word-requires c κs = search needs
+put-le32-requires : tie.Need-put-le32-requires
+put-le32-requires c κs = search needs
 
-add-put-word : tie.Need-add-put-word
-add-put-word c = search needs
+add-put-le32 : tie.Need-add-put-le32
+add-put-le32 c = search needs
 
-put-word-requires-2 : tie.Need-put-word-requires-2
-put-word-requires-2 c κs = search needs
+put-le32-requires-2 : tie.Need-put-le32-requires-2
+put-le32-requires-2 c κs = search needs
 
-add-put-word-2 : tie.Need-add-put-word-2
-add-put-word-2 c = search needs
+add-put-le32-2 : tie.Need-add-put-le32-2
+add-put-le32-2 c = search needs
 
-put-word-requires-3 : tie.Need-put-word-requires-3
-put-word-requires-3 c κs = search needs
+put-le32-requires-3 : tie.Need-put-le32-requires-3
+put-le32-requires-3 c κs = search needs
 
 same-length : tie.Need-same-length
 same-length c = search needs
@@ -28,10 +28,10 @@ pub put-key-spec : {M : Type 1} → statement M
 put-key-spec =
     tie.close
     (tie.spec
-    put-word-requires
-    add-put-word
-    put-word-requires-2
-    add-put-word-2
-    put-word-requires-3
+    put-le32-requires
+    add-put-le32
+    put-le32-requires-2
+    add-put-le32-2
+    put-le32-requires-3
     same-length
     returns)

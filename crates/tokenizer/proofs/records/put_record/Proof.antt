@@ -1,5 +1,5 @@
 use borrow.Author.Needs.{needs}
-use Rattle.tokenizer.proofs.Storing.{record-put}
+use Rattle.tokenizer.proofs.RecordBytes.{record-put}
 use Rattle.tokenizer.proofs.records.put_record.Statement.{statement}
 use Rattle.tokenizer.proofs.records.put_record.Tie as tie
 

@@ -1,6 +1,6 @@
 use mathlib.Core.Path.{_≡_, refl}
 use borrow.Author.Needs.{needs}
-use Rattle.tokenizer.proofs.Placing.{named-fits, escaped-fits, placed-named, placed-escaped, placed-zero, placed-one}
+use Rattle.tokenizer.proofs.KeyPlaces.{named-fits, escaped-fits, placed-named, placed-escaped, placed-zero, placed-one}
 use Rattle.tokenizer.proofs.stepping.place_key.Statement.{statement}
 use Rattle.tokenizer.proofs.stepping.place_key.Tie as tie
 

@@ -1,5 +1,5 @@
 use borrow.Author.Needs.{needs}
-use Rattle.tokenizer.proofs.Answering.{refused-answer, refused-table, accepted-answer, accepted-table}
+use Rattle.tokenizer.proofs.TokenizeAnswers.{refused-answer, refused-table, accepted-answer, accepted-table}
 use Rattle.tokenizer.proofs.tokenizing.tokenize.Statement.{statement}
 use Rattle.tokenizer.proofs.tokenizing.tokenize.Tie as tie
 
@@ -9,11 +9,11 @@ check-requires c κs = search needs
 enum-known-settings : tie.Need-enum-known-settings
 enum-known-settings c = search needs
 
-fill-table-requires : tie.Need-fill-table-requires
-fill-table-requires c κs = search needs
+write-table-requires : tie.Need-write-table-requires
+write-table-requires c κs = search needs
 
-enum-known-answer : tie.Need-enum-known-answer
-enum-known-answer c = search needs
+enum-known-refusal : tie.Need-enum-known-refusal
+enum-known-refusal c = search needs
 
 same-length : tie.Need-same-length
 same-length c = search needs
@@ -30,8 +30,8 @@ tokenize-spec =
     (tie.spec
     check-requires
     enum-known-settings
-    fill-table-requires
-    enum-known-answer
+    write-table-requires
+    enum-known-refusal
     same-length
     returns
     returns-2)

@@ -1,7 +1,7 @@
 use borrow.Author.Needs.{needs}
-use Rattle.tokenizer.proofs.Answering.{full-answer, full-table, done-room, done-answer, done-table}
-use Rattle.tokenizer.proofs.table.fill_counted.Statement.{statement}
-use Rattle.tokenizer.proofs.table.fill_counted.Tie as tie
+use Rattle.tokenizer.proofs.TokenizeAnswers.{full-answer, full-table, written-room, written-answer, written-table}
+use Rattle.tokenizer.proofs.table.write_counted.Statement.{statement}
+use Rattle.tokenizer.proofs.table.write_counted.Tie as tie
 
 count-tokens-requires : tie.Need-count-tokens-requires
 count-tokens-requires c κs = search needs
@@ -10,14 +10,14 @@ returns : tie.Need-returns
 returns c = search (full-answer, full-table)
 
 write-tokens-requires : tie.Need-write-tokens-requires
-write-tokens-requires c κs = search done-room
+write-tokens-requires c κs = search written-room
 
 same-length : tie.Need-same-length
 same-length c = search needs
 
 returns-2 : tie.Need-returns-2
-returns-2 c = search (done-answer, done-table)
+returns-2 c = search (written-answer, written-table)
 
-pub fill-counted-spec : {M : Type 1} → statement M
-fill-counted-spec =
+pub write-counted-spec : {M : Type 1} → statement M
+write-counted-spec =
     tie.close (tie.spec count-tokens-requires returns write-tokens-requires same-length returns-2)

@@ -10,12 +10,12 @@ use Rattle.recognisers.specs.declared.Recognised.{Recognised}
 use Rattle.recognisers.specs.declared.Recognised.the-variants as R
 use Rattle.tokenizer.specs.declared.Cursor.{Cursor}
 use Rattle.tokenizer.specs.declared.Memory.{Memory}
-use Rattle.tokenizer.specs.declared.Settings.{Settings}
+use Rattle.calls.specs.declared.Settings.{Settings}
 use Rattle.tokenizer.specs.declared.Token.{Token}
 use Rattle.tokenizer.specs.Memory.{start, remembered}
 use Rattle.tokenizer.specs.NextToken.{nextPiece}
 use Rattle.tokenizer.specs.Tokens.{tokenAt, tokens}
-use Rattle.tokenizer.proofs.Walking.{left, Moved, moved, past-end}
+use Rattle.tokenizer.proofs.Steps.{left, Moved, moved, past-end}
 use Rattle.tokenizer.proofs.EndToEnd.{Recognises, piece-recognised}
 
 abbrev pub Each : (Token → Type 0) → List Token → Type 0

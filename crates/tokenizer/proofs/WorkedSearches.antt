@@ -13,7 +13,7 @@ use Rattle.recognisers.specs.declared.TokenKind.{TokenKind}
 use Rattle.recognisers.specs.declared.TokenKind.the-variants as K
 use Rattle.recognisers.specs.Kinds.{isKind}
 use Rattle.recognisers.specs.Text.{byte, bytes}
-use Rattle.tokenizer.specs.declared.Settings.{Settings}
+use Rattle.calls.specs.declared.Settings.{Settings}
 use Rattle.tokenizer.specs.declared.Token.{Token}
 use Rattle.unicode.specs.Alphabetic.{alphabetic}
 use Rattle.unicode.specs.Character.{isContinuation, continuations, continued, firstBits, withBits, characterLength, codePoint, character}
