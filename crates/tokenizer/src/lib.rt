@@ -15,8 +15,6 @@ mod tokenizing;
 pub use answers::answer_detail;
 pub use answers::answer_number;
 pub use records::key_words;
-pub use remembering::is_kind;
-pub use remembering::kind_number;
 pub use stepping::next_step;
 pub use table::at_start;
 pub use table::count_tokens;
