@@ -32,7 +32,7 @@ fn print_key(key: KeyWords) {
 fn print_token(token: Token) {
     let kind = token.kind;
     let key = token.key;
-    io::print_decimal(STDOUT_FILENO, tokenizer::kind_number(kind));
+    io::print_decimal(STDOUT_FILENO, recognisers::kind_number(kind));
     print_next(token.start as u64);
     print_next(token.len as u64);
     print_next(token.alias as u64);

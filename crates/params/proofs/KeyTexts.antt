@@ -16,7 +16,7 @@ use Rattle.recognisers.specs.declared.Key.{Key}
 use Rattle.recognisers.specs.declared.Key.the-variants.{None, Named, Escaped, ZeroIndexed, OneIndexed}
 use Rattle.recognisers.specs.Text.{byte}
 use Rattle.recognisers.specs.Taking.{startsWith}
-use Rattle.reserved.specs.Reserved.{same}
+use Rattle.recognisers.specs.Same.{same}
 use Rattle.tokenizer.specs.KeyText.{unescaped, keyText}
 use Rattle.params.specs.Keys.{hasName}
 use Rattle.params.specs.Inside.{keyEnd}

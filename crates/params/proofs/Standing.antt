@@ -11,7 +11,7 @@ use lib.Dec.{leb, ltb, eqb}
 use lib.ListN.{length, take, drop}
 use mir.Syntax.{w64}
 use mir.Val.{Fits}
-use Rattle.reserved.specs.Reserved.{same}
+use Rattle.recognisers.specs.Same.{same}
 use Rattle.tokenizer.specs.declared.Token.{Token}
 use Rattle.params.specs.declared.Lengths.{Lengths}
 use Rattle.params.specs.declared.Params.{Params}

@@ -5,7 +5,7 @@ use mathlib.Core.List.{List}
 use lib.Dec.{ltb, eqb}
 use Rattle.recognisers.specs.declared.Key.{Key}
 use Rattle.recognisers.specs.declared.Key.the-variants as K
-use Rattle.reserved.specs.Reserved.{same}
+use Rattle.recognisers.specs.Same.{same}
 use Rattle.tokenizer.specs.declared.Token.{Token}
 use Rattle.tokenizer.specs.KeyText.{keyText}
 use Rattle.params.specs.declared.Part.{Part}

@@ -1,6 +1,6 @@
 // What is asked of a token's key: its text, with escapes undone, and its index.
 use recognisers::Key;
-use reserved::is_exactly;
+use recognisers::is_exactly;
 ghost use mathlib.Core.Path.{_≡_};
 ghost use mathlib.Core.Bool.{_&&_};
 ghost use Prim.Native.Nat.{_+_, _≤_, _<_};
@@ -8,7 +8,7 @@ ghost use lib.Dec.{eqb};
 ghost use lib.ListN.{length, drop, getD};
 ghost use Rattle.recognisers.specs.Text.{byte};
 ghost use Rattle.recognisers.specs.Taking.{startsWith};
-ghost use Rattle.reserved.specs.Reserved.{same};
+ghost use Rattle.recognisers.specs.Same.{same};
 ghost use Rattle.tokenizer.specs.KeyText.{unescaped, keyText};
 ghost use Rattle.params.specs.Keys.{hasKey, hasName};
 ghost use Rattle.params.specs.Inside.{keyEnd};

@@ -13,7 +13,7 @@ ghost use mathlib.Core.Path.{_≡_};
 ghost use mathlib.Core.Bool.{true};
 ghost use Prim.Native.Nat.{_+_, _≤_, _<_};
 ghost use lib.ListN.{length};
-ghost use Rattle.reserved.specs.Reserved.{same};
+ghost use Rattle.recognisers.specs.Same.{same};
 ghost use Rattle.tokenizer.specs.KeyText.{keyText};
 ghost use Rattle.params.specs.Sheet.{countOf, width, lengthsAt, placeOf, nameAt, isSheet};
 ghost use Rattle.params.specs.Inside.{keyEnd};

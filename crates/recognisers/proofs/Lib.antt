@@ -2,6 +2,7 @@
 pub mod Counting
 pub mod Choosing
 pub mod Spelling
+pub mod SameBytes
 pub mod Inside
 pub mod Cases
 pub mod Comments

@@ -1,5 +1,6 @@
 -- The recognisers of src/tokenizer.rs that look at the text alone, in its order and under its names.
 pub mod Text
+pub mod Same
 pub mod Kinds
 pub mod Taking
 pub mod Pieces

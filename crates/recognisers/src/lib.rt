@@ -1,6 +1,8 @@
 // The recognisers of src/tokenizer.rs that look at the text alone, each under its Rust name. A recogniser gets the rest of the
 // statement from the present token on.
 mod comment;
+mod comparing;
+mod kinds;
 mod numbers;
 mod parens;
 mod placeholders;
@@ -10,6 +12,9 @@ mod type_specifier;
 mod words;
 
 pub use comment::get_comment_token;
+pub use comparing::is_exactly;
+pub use kinds::is_kind;
+pub use kinds::kind_number;
 pub use numbers::get_number_token;
 pub use parens::get_close_paren_token;
 pub use parens::get_open_paren_token;

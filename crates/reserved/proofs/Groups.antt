@@ -18,7 +18,6 @@ use Rattle.recognisers.specs.declared.Recognised.the-variants as R
 use Rattle.recognisers.specs.Text.{byte, bytes}
 use Rattle.recognisers.specs.Taking.{taken, typed, isSpelled, or, capital, startsWith}
 use Rattle.recognisers.specs.Pieces.{tokenOf, alt}
-use Rattle.recognisers.proofs.Spelling.{spelled-short}
 use Rattle.reserved.specs.declared.TopLevel.{TopLevel}
 use Rattle.reserved.specs.declared.Found.{Found}
 use Rattle.reserved.specs.declared.Found.the-variants.{Entry, Nothing}
@@ -30,7 +29,7 @@ use Rattle.reserved.specs.Join.{joinPhrases}
 use Rattle.reserved.specs.NoIndent.{noIndentPhrases}
 use Rattle.reserved.specs.Plain.{plainTwoPhrases, plainOnePhrases, plainA, plainB, plainC, plainD, plainE, plainF, plainG, plainH, plainI, plainK, plainL, plainM, plainN, plainO, plainP, plainQ, plainR, plainS, plainT, plainU, plainV, plainW, plainY}
 use Rattle.reserved.specs.Entries.{grouped, entries, ifExists, ending, entryEnd, chosen, findEntry, tokenFor}
-use Rattle.reserved.specs.Reserved.{same, topLevelToken, newlineToken, getTopLevelReservedToken, getNewlineAfterReservedToken, getNewlineReservedToken, getJoinToken, getTopLevelReservedTokenNoIndent, getPlainReservedToken, mayBeReserved, getReservedWordToken}
+use Rattle.reserved.specs.Reserved.{topLevelToken, newlineToken, getTopLevelReservedToken, getNewlineAfterReservedToken, getNewlineReservedToken, getJoinToken, getTopLevelReservedTokenNoIndent, getPlainReservedToken, mayBeReserved, getReservedWordToken}
 use Rattle.reserved.proofs.Walking.{walk-inside, ending-inside}
 
 -- ---- one list after another
@@ -213,27 +212,6 @@ module _ (s : List ℕ) (between : Bool) (last : TopLevel) (f : Found) (e : f �
 
   pub entry-none : f ≡ Nothing → R.Nothing ≡ tokenFor between last s (findEntry entries s)
   entry-none q = rw (← e, q)
-
--- two byte strings of one length are the same where one starts the other
-pub same-is : (s t : List ℕ) → length s ≡ length t → isSpelled typed t s ≡ same s t
-unfolding isSpelled same typed
-same-is [] [] l = refl
-same-is [] (c ∷ t) l = absurd (let z : ⊥ = omega arith in z)
-same-is (b ∷ s) [] l = absurd (let z : ⊥ = omega arith in z)
-same-is (b ∷ s) (c ∷ t) l = ap (λ (x : Bool). eqb b c && x) (same-is s t (let z : length s ≡ length t = omega arith in z))
-
-same-not : (s t : List ℕ) → (length s ≡ length t → ⊥) → false ≡ same s t
-unfolding same
-same-not [] [] n = absurd (n refl)
-same-not [] (c ∷ t) n = refl
-same-not (b ∷ s) [] n = refl
-same-not (b ∷ s) (c ∷ t) n = sym (rw (← same-not s t (λ e. n (ap suc e))) (and-false (eqb b c)))
-
-pub exactly-yes : (s t : List ℕ) (r : Bool) → length s ≡ length t → r ≡ isSpelled typed t s → r ≡ same s t
-exactly-yes s t r l e = e ∙ same-is s t l
-
-pub exactly-not : (s t : List ℕ) → (length s ≡ length t → ⊥) → false ≡ same s t
-exactly-not = same-not
 
 -- ---- the first letter
 

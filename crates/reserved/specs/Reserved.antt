@@ -12,6 +12,7 @@ use Rattle.recognisers.specs.declared.TokenKind.the-variants.{Reserved, Reserve
 use Rattle.recognisers.specs.declared.Recognised.{Recognised}
 use Rattle.recognisers.specs.declared.Recognised.the-variants.{Token, Nothing}
 use Rattle.recognisers.specs.Text.{byte, bytes}
+use Rattle.recognisers.specs.Same.{same}
 use Rattle.recognisers.specs.Taking.{typed, isSpelled, capital, startsWith}
 use Rattle.recognisers.specs.Pieces.{piece, tokenOf, alt}
 use Rattle.unicode.specs.Ranges.{within}
@@ -24,13 +25,6 @@ use Rattle.reserved.specs.Newline.{newlinePhrases}
 use Rattle.reserved.specs.Join.{joinPhrases}
 use Rattle.reserved.specs.NoIndent.{noIndentPhrases}
 use Rattle.reserved.specs.Plain.{plainTwoPhrases, plainOnePhrases}
-
--- the same bytes, as typed
-unfoldable pub same : List ℕ → List ℕ → Bool
-same [] [] = true
-same [] (c ∷ t) = false
-same (b ∷ s) [] = false
-same (b ∷ s) (c ∷ t) = eqb b c && same s t
 
 abbrev pub isSelect : TopLevel → Bool
 isSelect Select = true

@@ -4,7 +4,6 @@ mod tables;
 mod words;
 
 pub use words::get_reserved_word_token;
-pub use words::is_exactly;
 
 // What is asked of the last top-level token's alias: which of these it is exactly, if any.
 pub enum TopLevel {

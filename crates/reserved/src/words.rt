@@ -8,6 +8,7 @@ use recognisers::Recognised;
 use recognisers::Taken;
 use recognisers::TokenKind;
 use recognisers::capital_of;
+use recognisers::is_exactly;
 use recognisers::stands_at;
 use recognisers::starts_with;
 use recognisers::token_of;
@@ -17,20 +18,11 @@ ghost use Prim.Native.Nat.{_≤_};
 ghost use lib.ListN.{length, getD};
 ghost use Rattle.unicode.specs.Ranges.{within};
 ghost use Rattle.recognisers.specs.Text.{bytes};
+ghost use Rattle.recognisers.specs.Same.{same};
 ghost use Rattle.recognisers.specs.Taking.{typed, isSpelled, capital};
 ghost use Rattle.recognisers.specs.declared.Taken.the-variants.{Bytes};
-ghost use Rattle.reserved.specs.Reserved.{same, isSelect, isUpdate, takesUsing, topLevelKind, aliasLength, topLevelToken, newlineToken, mayBeReserved, getReservedWordToken};
+ghost use Rattle.reserved.specs.Reserved.{isSelect, isUpdate, takesUsing, topLevelKind, aliasLength, topLevelToken, newlineToken, mayBeReserved, getReservedWordToken};
 ghost use Rattle.reserved.specs.Entries.{entries, findEntry, tokenFor};
-
-// The same bytes, as typed.
-pub fn is_exactly(value: &[u8], word: &[u8]) -> bool
-    ensures { λ r. ⌜ r ≡ same (now (value .entry)) (now (word .entry)) ⌝ }
-{
-    if value.len() == word.len() {
-        return starts_with(value, word);
-    }
-    false
-}
 
 fn is_select(last: TopLevel) -> bool
     ensures { λ r. ⌜ r ≡ isSelect last ⌝ }

@@ -2,8 +2,8 @@
 use crate::Gap;
 use crate::Spacing;
 use recognisers::TokenKind;
+use recognisers::is_kind;
 use tokenizer::Token;
-use tokenizer::is_kind;
 ghost use mathlib.Core.Path.{_≡_};
 ghost use lib.ListN.{length};
 ghost use Rattle.tight.specs.TightText.{isGap, gapAfter, gapBytes};

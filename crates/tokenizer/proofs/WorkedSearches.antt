@@ -38,7 +38,8 @@ use Rattle.reserved.specs.NewlineAfter.{newlineAfterPhrases}
 use Rattle.reserved.specs.NoIndent.{noIndentPhrases}
 use Rattle.reserved.specs.Phrases.{walk, optional, phraseEnd, firstPhrase, each}
 use Rattle.reserved.specs.Plain.{plainTwoPhrases, plainA, plainB, plainC, plainD, plainE, plainF, plainG, plainH, plainI, plainK, plainL, plainM, plainN, plainO, plainP, plainQ, plainR, plainS, plainT, plainU, plainV, plainW, plainY, plainOnePhrases}
-use Rattle.reserved.specs.Reserved.{same, topLevelKind, aliasLength, getTopLevelReservedToken, getNewlineAfterReservedToken, getNewlineReservedToken, getJoinToken, getTopLevelReservedTokenNoIndent, getPlainReservedToken, mayBeReserved, getReservedWordToken}
+use Rattle.recognisers.specs.Same.{same}
+use Rattle.reserved.specs.Reserved.{topLevelKind, aliasLength, getTopLevelReservedToken, getNewlineAfterReservedToken, getNewlineReservedToken, getJoinToken, getTopLevelReservedTokenNoIndent, getPlainReservedToken, mayBeReserved, getReservedWordToken}
 use Rattle.reserved.specs.TopLevel.{creatable, alterableOrDroppable, eachDropped, topLevelPhrases}
 use Rattle.tokenizer.specs.Memory.{takesTypeSpecifier, topLevelOf, afterBetween, lastTopLevel, remember, remembered}
 use Rattle.tokenizer.specs.NextToken.{fromWord, fromPlaceholder, fromOperator, fromReserved, fromNumber, fromCloseParen, fromOpenParen, fromString, fromTypeSpecifier, getNextToken, nextPiece}

@@ -9,7 +9,7 @@ use Rattle.recognisers.specs.Kinds.{isKind, isOneOf}
 use Rattle.recognisers.specs.Text.{bytes}
 use Rattle.reserved.specs.declared.TopLevel.{TopLevel}
 use Rattle.reserved.specs.declared.TopLevel.the-variants.{Select, Update, MergeInto, DeleteFrom, Other}
-use Rattle.reserved.specs.Reserved.{same}
+use Rattle.recognisers.specs.Same.{same}
 use Rattle.tokenizer.specs.declared.Memory.{Memory}
 
 -- before the first token

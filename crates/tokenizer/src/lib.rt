@@ -15,8 +15,6 @@ mod tokenizing;
 pub use answers::table_detail;
 pub use answers::table_number;
 pub use records::key_words;
-pub use remembering::is_kind;
-pub use remembering::kind_number;
 pub use stepping::at_start;
 pub use stepping::next_step;
 pub use table::count_tokens;

@@ -1,9 +1,9 @@
 // Token records: seven 32-bit words, the lowest byte first.
 use crate::KeyWords;
 use crate::Token;
-use crate::remembering::kind_number;
 use calls::put_le32;
 use recognisers::Key;
+use recognisers::kind_number;
 ghost use mathlib.Core.Path.{_≡_};
 ghost use Prim.Native.Nat.{_+_, _≤_};
 ghost use lib.ListN.{length};

@@ -1,7 +1,7 @@
 use mathlib.Core.Path.{_≡_, refl}
 use borrow.Author.Needs.{needs}
-use Rattle.tokenizer.proofs.remembering.kind_number.Statement.{statement}
-use Rattle.tokenizer.proofs.remembering.kind_number.Tie as tie
+use Rattle.recognisers.proofs.kinds.kind_number.Statement.{statement}
+use Rattle.recognisers.proofs.kinds.kind_number.Tie as tie
 
 enum-told : tie.Need-enum-told
 enum-told c = search needs

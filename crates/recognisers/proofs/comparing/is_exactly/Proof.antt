@@ -1,7 +1,7 @@
 use borrow.Author.Needs.{needs}
-use Rattle.reserved.proofs.Groups.{exactly-yes, exactly-not}
-use Rattle.reserved.proofs.words.is_exactly.Statement.{statement}
-use Rattle.reserved.proofs.words.is_exactly.Tie as tie
+use Rattle.recognisers.proofs.SameBytes.{exactly-yes, exactly-not}
+use Rattle.recognisers.proofs.comparing.is_exactly.Statement.{statement}
+use Rattle.recognisers.proofs.comparing.is_exactly.Tie as tie
 
 starts-with-requires : tie.Need-starts-with-requires
 starts-with-requires c κs = search needs

@@ -1,6 +1,6 @@
 use borrow.Author.Needs.{needs}
-use Rattle.tokenizer.proofs.remembering.is_kind.Statement.{statement}
-use Rattle.tokenizer.proofs.remembering.is_kind.Tie as tie
+use Rattle.recognisers.proofs.kinds.is_kind.Statement.{statement}
+use Rattle.recognisers.proofs.kinds.is_kind.Tie as tie
 
 kind-number-requires : tie.Need-kind-number-requires
 kind-number-requires c κs = search needs

@@ -1,0 +1,14 @@
+// Exact comparison.
+use crate::scan::starts_with;
+ghost use mathlib.Core.Path.{_≡_};
+ghost use Rattle.recognisers.specs.Same.{same};
+
+// The same bytes, as typed.
+pub fn is_exactly(value: &[u8], word: &[u8]) -> bool
+    ensures { λ r. ⌜ r ≡ same (now (value .entry)) (now (word .entry)) ⌝ }
+{
+    if value.len() == word.len() {
+        return starts_with(value, word);
+    }
+    false
+}
