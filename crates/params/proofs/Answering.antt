@@ -15,7 +15,7 @@ use Rattle.calls.specs.declared.Checked.the-variants.{Accepted, Refused}
 use Rattle.calls.specs.declared.Settings.{Settings}
 use Rattle.tokenizer.specs.Answers.{answerNumber, isSetting, settingsOf, longest, checkedText, checked}
 use Rattle.tight.specs.Answers.{textAnswer, textAfter}
-use Rattle.tight.proofs.Answering.{Told, refusal-told, text-inside, text-long}
+use Rattle.tight.proofs.TightenAnswers.{Told, refusal-told, text-inside, text-long}
 use Rattle.params.specs.Sheet.{isSheet}
 use Rattle.params.specs.Filled.{filled}
 use Rattle.params.specs.Answers.{withSheet, checkedWith, fillAnswer, fillOutput}

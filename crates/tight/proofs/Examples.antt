@@ -41,7 +41,7 @@ use Rattle.tokenizer.specs.NextToken.{fromWord, fromPlaceholder, fromOperator, 
 use Rattle.tokenizer.specs.Tokens.{givenOut, tokensFrom, tokens}
 use Rattle.tight.specs.TightText.{gapAfter, tightFrom, tight}
 use Rattle.tight.specs.TightText as T
-use Rattle.tight.specs.Agree.{Compared, compared, comparedAll, reading, isGap, words, Agree}
+use Rattle.tight.specs.Agree.{Compared, compared, comparedAll, reading, isGap, withoutGaps, Agree}
 
 pub generic : Settings
 generic = record { dialect = Generic; joins = false; named = false }
@@ -64,12 +64,12 @@ kinds : List Compared → List TokenKind
 kinds cs = map (λ c. c .kind) cs
 
 -- `#`, a lone CR, `a`: an operator, a gap and a word; its tight text `# a` is one line comment
-lone : kinds (words (reading generic (bytes "#\ra"))) ≡ K.Operator ∷ K.Word ∷ []
-unfolding alphabetic isContinuation continuations continued firstBits withBits characterLength codePoint character isWhitespace isAlphabetic isNumeric isMark isPunctuationConnector isAlphanumeric isWordCharacter isPlaceholderNameCharacter connector mark numeric within inRanges ordered endsOf inEnds ascending inClass run whiteSpace tillLineEnding throughBlockEnd getCommentToken decimalNumber signedDigits exponent scientificNotation unsigned getNumberToken getOpenParenToken getCloseParenToken numberFrom indexedKey indexedPart getIndexedPlaceholderToken placeholderName identPart getIdentNamedPlaceholderToken throughBrace bracedText bracedPart getBracedNamedPlaceholderToken hasEscape stringKey stringNamedPart getStringNamedPlaceholderToken getPlaceholderToken takeTillEscaping closedBy hexPart quotedPart stringPart getStringToken placeholderQuotedPart placeholderStringPart one spelled isSpelled typed capital blanks endOfWord count digit1 digit0 contains startsAmong startsWith getTypeSpecifierToken getWhitespaceToken isOperator getOperatorToken getWordToken getAnyOtherChar joinPhrases newlinePhrases newlineAfterPhrases noIndentPhrases walk optional phraseEnd firstPhrase each plainTwoPhrases plainA plainB plainC plainD plainE plainF plainG plainH plainI plainK plainL plainM plainN plainO plainP plainQ plainR plainS plainT plainU plainV plainW plainY plainOnePhrases same topLevelKind aliasLength getTopLevelReservedToken getNewlineAfterReservedToken getNewlineReservedToken getJoinToken getTopLevelReservedTokenNoIndent getPlainReservedToken mayBeReserved getReservedWordToken creatable alterableOrDroppable eachDropped topLevelPhrases takesTypeSpecifier topLevelOf afterBetween lastTopLevel remember remembered fromWord fromPlaceholder fromOperator fromReserved fromNumber fromCloseParen fromOpenParen fromString fromTypeSpecifier getNextToken nextPiece givenOut tokensFrom tokens compared comparedAll reading isGap words generic kinds
+lone : kinds (withoutGaps (reading generic (bytes "#\ra"))) ≡ K.Operator ∷ K.Word ∷ []
+unfolding alphabetic isContinuation continuations continued firstBits withBits characterLength codePoint character isWhitespace isAlphabetic isNumeric isMark isPunctuationConnector isAlphanumeric isWordCharacter isPlaceholderNameCharacter connector mark numeric within inRanges ordered endsOf inEnds ascending inClass run whiteSpace tillLineEnding throughBlockEnd getCommentToken decimalNumber signedDigits exponent scientificNotation unsigned getNumberToken getOpenParenToken getCloseParenToken numberFrom indexedKey indexedPart getIndexedPlaceholderToken placeholderName identPart getIdentNamedPlaceholderToken throughBrace bracedText bracedPart getBracedNamedPlaceholderToken hasEscape stringKey stringNamedPart getStringNamedPlaceholderToken getPlaceholderToken takeTillEscaping closedBy hexPart quotedPart stringPart getStringToken placeholderQuotedPart placeholderStringPart one spelled isSpelled typed capital blanks endOfWord count digit1 digit0 contains startsAmong startsWith getTypeSpecifierToken getWhitespaceToken isOperator getOperatorToken getWordToken getAnyOtherChar joinPhrases newlinePhrases newlineAfterPhrases noIndentPhrases walk optional phraseEnd firstPhrase each plainTwoPhrases plainA plainB plainC plainD plainE plainF plainG plainH plainI plainK plainL plainM plainN plainO plainP plainQ plainR plainS plainT plainU plainV plainW plainY plainOnePhrases same topLevelKind aliasLength getTopLevelReservedToken getNewlineAfterReservedToken getNewlineReservedToken getJoinToken getTopLevelReservedTokenNoIndent getPlainReservedToken mayBeReserved getReservedWordToken creatable alterableOrDroppable eachDropped topLevelPhrases takesTypeSpecifier topLevelOf afterBetween lastTopLevel remember remembered fromWord fromPlaceholder fromOperator fromReserved fromNumber fromCloseParen fromOpenParen fromString fromTypeSpecifier getNextToken nextPiece givenOut tokensFrom tokens compared comparedAll reading isGap withoutGaps generic kinds
 lone = refl
 
-its-tight : kinds (words (reading generic (tight generic (bytes "#\ra")))) ≡ K.LineComment ∷ []
-unfolding alphabetic isContinuation continuations continued firstBits withBits characterLength codePoint character isWhitespace isAlphabetic isNumeric isMark isPunctuationConnector isAlphanumeric isWordCharacter isPlaceholderNameCharacter connector mark numeric within inRanges ordered endsOf inEnds ascending inClass run whiteSpace tillLineEnding throughBlockEnd getCommentToken decimalNumber signedDigits exponent scientificNotation unsigned getNumberToken getOpenParenToken getCloseParenToken numberFrom indexedKey indexedPart getIndexedPlaceholderToken placeholderName identPart getIdentNamedPlaceholderToken throughBrace bracedText bracedPart getBracedNamedPlaceholderToken hasEscape stringKey stringNamedPart getStringNamedPlaceholderToken getPlaceholderToken takeTillEscaping closedBy hexPart quotedPart stringPart getStringToken placeholderQuotedPart placeholderStringPart one spelled isSpelled typed capital blanks endOfWord count digit1 digit0 contains startsAmong startsWith getTypeSpecifierToken getWhitespaceToken isOperator getOperatorToken getWordToken getAnyOtherChar joinPhrases newlinePhrases newlineAfterPhrases noIndentPhrases walk optional phraseEnd firstPhrase each plainTwoPhrases plainA plainB plainC plainD plainE plainF plainG plainH plainI plainK plainL plainM plainN plainO plainP plainQ plainR plainS plainT plainU plainV plainW plainY plainOnePhrases same topLevelKind aliasLength getTopLevelReservedToken getNewlineAfterReservedToken getNewlineReservedToken getJoinToken getTopLevelReservedTokenNoIndent getPlainReservedToken mayBeReserved getReservedWordToken creatable alterableOrDroppable eachDropped topLevelPhrases takesTypeSpecifier topLevelOf afterBetween lastTopLevel remember remembered fromWord fromPlaceholder fromOperator fromReserved fromNumber fromCloseParen fromOpenParen fromString fromTypeSpecifier getNextToken nextPiece givenOut tokensFrom tokens T.isGap gapAfter tightFrom tight compared comparedAll reading isGap words generic kinds
+its-tight : kinds (withoutGaps (reading generic (tight generic (bytes "#\ra")))) ≡ K.LineComment ∷ []
+unfolding alphabetic isContinuation continuations continued firstBits withBits characterLength codePoint character isWhitespace isAlphabetic isNumeric isMark isPunctuationConnector isAlphanumeric isWordCharacter isPlaceholderNameCharacter connector mark numeric within inRanges ordered endsOf inEnds ascending inClass run whiteSpace tillLineEnding throughBlockEnd getCommentToken decimalNumber signedDigits exponent scientificNotation unsigned getNumberToken getOpenParenToken getCloseParenToken numberFrom indexedKey indexedPart getIndexedPlaceholderToken placeholderName identPart getIdentNamedPlaceholderToken throughBrace bracedText bracedPart getBracedNamedPlaceholderToken hasEscape stringKey stringNamedPart getStringNamedPlaceholderToken getPlaceholderToken takeTillEscaping closedBy hexPart quotedPart stringPart getStringToken placeholderQuotedPart placeholderStringPart one spelled isSpelled typed capital blanks endOfWord count digit1 digit0 contains startsAmong startsWith getTypeSpecifierToken getWhitespaceToken isOperator getOperatorToken getWordToken getAnyOtherChar joinPhrases newlinePhrases newlineAfterPhrases noIndentPhrases walk optional phraseEnd firstPhrase each plainTwoPhrases plainA plainB plainC plainD plainE plainF plainG plainH plainI plainK plainL plainM plainN plainO plainP plainQ plainR plainS plainT plainU plainV plainW plainY plainOnePhrases same topLevelKind aliasLength getTopLevelReservedToken getNewlineAfterReservedToken getNewlineReservedToken getJoinToken getTopLevelReservedTokenNoIndent getPlainReservedToken mayBeReserved getReservedWordToken creatable alterableOrDroppable eachDropped topLevelPhrases takesTypeSpecifier topLevelOf afterBetween lastTopLevel remember remembered fromWord fromPlaceholder fromOperator fromReserved fromNumber fromCloseParen fromOpenParen fromString fromTypeSpecifier getNextToken nextPiece givenOut tokensFrom tokens T.isGap gapAfter tightFrom tight compared comparedAll reading isGap withoutGaps generic kinds
 its-tight = refl
 
 pub lone-return-disagrees : Agree generic (bytes "#\ra") (tight generic (bytes "#\ra")) → ⊥

@@ -10,15 +10,15 @@ use mathlib.Core.Logic.{_↔_}
 use mathlib.Core.Path.{_≡_, sym, ap, _∙_}
 use Rattle.calls.specs.declared.Checked.the-variants.{Accepted}
 use Rattle.calls.specs.declared.Settings.{Settings}
-use Rattle.tokenizer.specs.Answers.{checked}
+use Rattle.calls.specs.Checks.{checked}
 use Rattle.tokenizer.specs.Memory.{start}
 use Rattle.tight.specs.TightText.{tight}
 use Rattle.tight.specs.Agree.{reading, Agree}
 use Rattle.tight.specs.LoneReturn.{noLoneReturn}
-use Rattle.tight.proofs.Again.{render, items-again}
-use Rattle.tight.proofs.Placed.{agree-items, items-agree}
-use Rattle.tight.proofs.Readings.{reading-is, items}
-use Rattle.tight.proofs.Rendering.{tight-is}
+use Rattle.tight.proofs.TightReading.{render, items-again}
+use Rattle.tight.proofs.AgreeByItems.{agree-items, items-agree}
+use Rattle.tight.proofs.ReadingItems.{reading-is, items}
+use Rattle.tight.proofs.TightByItems.{tight-is}
 use Rattle.tight.proofs.TightAccepted.{tight-accepted}
 
 module _ (settings : Settings) where

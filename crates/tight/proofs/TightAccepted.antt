@@ -20,23 +20,24 @@ use Rattle.unicode.proofs.Cuts.{end-formed, run-cut}
 use Rattle.recognisers.specs.declared.Recognised.the-variants as R
 use Rattle.recognisers.specs.declared.TokenKind.{TokenKind}
 use Rattle.recognisers.proofs.Boundaries.{Bounded}
-use Rattle.tokenizer.specs.declared.Answer.{Answer}
-use Rattle.tokenizer.specs.declared.Answer.the-variants as A
 use Rattle.calls.specs.declared.Checked.the-variants.{Accepted, Refused}
 use Rattle.tokenizer.specs.declared.Memory.{Memory}
+use Rattle.calls.specs.declared.Refusal.{Refusal}
+use Rattle.calls.specs.declared.Refusal.the-variants as A
 use Rattle.calls.specs.declared.Settings.{Settings}
-use Rattle.tokenizer.specs.Answers.{isSetting, settingsOf, longest, whenUtf8, checkedText, checked}
+use Rattle.calls.specs.Settings.{isSetting, settingsOf}
+use Rattle.calls.specs.Checks.{longest, whenUtf8, checkedText, checked}
 use Rattle.tokenizer.specs.Memory.{start}
 use Rattle.tokenizer.specs.Tokens.{givenOut}
 use Rattle.tokenizer.proofs.TokenBoundaries.{piece-bounded}
 use Rattle.tight.specs.TightText.{tight}
-use Rattle.tight.proofs.Shortness.{tight-short}
+use Rattle.tight.proofs.TightShort.{tight-short}
 use Rattle.tight.proofs.Whitespace.{isBlank}
 use Rattle.tight.proofs.Sim.{Separator, space, newline}
-use Rattle.tight.proofs.Readings.{past, readFrom, reading-is, read-none, afterGap, items}
+use Rattle.tight.proofs.ReadingItems.{past, readFrom, reading-is, read-none, afterGap, items}
 use Rattle.tight.proofs.GapRuns.{each-rest, gap-of}
-use Rattle.tight.proofs.Again.{found, inner, items-gap, joint, render, render-one, separates}
-use Rattle.tight.proofs.Rendering.{tight-is}
+use Rattle.tight.proofs.TightReading.{found, inner, items-gap, joint, render, render-one, separates}
+use Rattle.tight.proofs.TightByItems.{tight-is}
 use Rattle.unicode.proofs.Replacing.{replaced, ascii-before}
 
 -- ---- it is well formed
@@ -89,7 +90,7 @@ module _ (dialect joins named : ℕ) (settings : Settings) where
     short : length s ≤ longest
     utf8 : wellFormed s ≡ true
 
-  refused≢accepted : {P : Type 0} {a : Answer} → Refused a ≡ Accepted settings → P
+  refused≢accepted : {P : Type 0} {a : Refusal} → Refused a ≡ Accepted settings → P
   refused≢accepted e = absurd (let z : _≡_ {A = ℕ} 0 1 = cc in let y : ⊥ = omega arith in y)
 
   accepts : (s : List ℕ) → checked dialect joins named s ≡ Accepted settings → Accepts s

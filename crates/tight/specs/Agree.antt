@@ -51,9 +51,9 @@ unfoldable pub isGap : Compared → Bool
 isGap c = isKind (c .kind) K.Whitespace
 
 -- gaps taken out
-unfoldable pub words : List Compared → List Compared
-words [] = []
-words (c ∷ cs) = cond (isGap c) (words cs) (c ∷ words cs)
+unfoldable pub withoutGaps : List Compared → List Compared
+withoutGaps [] = []
+withoutGaps (c ∷ cs) = cond (isGap c) (withoutGaps cs) (c ∷ withoutGaps cs)
 
 unfoldable pub onlyGaps : List Compared → Bool
 onlyGaps [] = true
@@ -68,5 +68,5 @@ innerGaps n (c ∷ cs) =
 
 -- one list of tokens: equally long and, at each index, the same in kind, value, alias length and key
 pub record Agree (settings : Settings) (s t : List ℕ) : Type 0 where
-  pub same-tokens : words (reading settings s) ≡ words (reading settings t)
+  pub same-tokens : withoutGaps (reading settings s) ≡ withoutGaps (reading settings t)
   pub same-gaps : innerGaps 0 (reading settings s) ≡ innerGaps 0 (reading settings t)

@@ -7,7 +7,7 @@ use tokenizer::Token;
 ghost use mathlib.Core.Path.{_≡_};
 ghost use lib.ListN.{length};
 ghost use Rattle.tight.specs.TightText.{isGap, gapAfter, gapBytes};
-ghost use Rattle.tight.specs.Parts.{outside, spacingPast};
+ghost use Rattle.tight.specs.Inner.Added.{outside, spacingPast};
 
 pub fn is_gap(token: Token) -> bool
     ensures { λ r. ⌜ r ≡ isGap token ⌝ }

@@ -1,10 +1,9 @@
 // The tight text of a statement: its tokens' values, with one byte or none for each gap.
+mod adding;
 mod gaps;
-mod parts;
 mod text;
 mod tightening;
 
-pub use parts::put_bytes;
 pub use tightening::tighten;
 
 // What a gap becomes.

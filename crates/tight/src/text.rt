@@ -1,8 +1,8 @@
 // The tight text of a whole statement: its length, and the text itself.
+use crate::adding::added_length;
+use crate::adding::put_added;
 use crate::gaps::before_first;
 use crate::gaps::spacing_past;
-use crate::parts::part_length;
-use crate::parts::put_part;
 use calls::Settings;
 use tokenizer::Step;
 use tokenizer::at_start;
@@ -23,7 +23,7 @@ pub fn tight_length(statement: &[u8], settings: Settings) -> usize
         match next_step(statement, settings, cursor) {
             Step::Token(token, next) => {
                 let lead = spacing.lead;
-                count += part_length(lead, token);
+                count += added_length(lead, token);
                 spacing = spacing_past(spacing, token);
                 cursor = next;
             }
@@ -47,8 +47,8 @@ pub fn write_tight(statement: &[u8], settings: Settings, output: &mut [u8]) -> u
         match next_step(statement, settings, cursor) {
             Step::Token(token, next) => {
                 let lead = spacing.lead;
-                put_part(statement, lead, token, output, at);
-                at += part_length(lead, token);
+                put_added(statement, lead, token, output, at);
+                at += added_length(lead, token);
                 spacing = spacing_past(spacing, token);
                 cursor = next;
             }

@@ -1,7 +1,7 @@
 use mathlib.Core.Path.{sym}
 use lib.Seq.{length-take-le}
 use borrow.Author.Needs.{needs}
-use Rattle.tight.proofs.Answering.{written-inside}
+use Rattle.tight.proofs.TightenAnswers.{written-inside}
 use Rattle.tight_text.proofs.print_tight.Statement.{statement}
 use Rattle.tight_text.proofs.print_tight.Tie as tie
 

@@ -1,5 +1,5 @@
 use borrow.Author.Needs.{needs}
-use Rattle.tight.proofs.Answering.{full-answer, full-output, done-room, done-answer, done-output}
+use Rattle.tight.proofs.TightenAnswers.{full-answer, full-output, done-room, done-answer, done-output}
 use Rattle.params.proofs.filling.fill_output.Statement.{statement}
 use Rattle.params.proofs.filling.fill_output.Tie as tie
 

@@ -1,5 +1,5 @@
 use borrow.Author.Needs.{needs}
-use Rattle.tight.specs.Parts.{spacingPast}
+use Rattle.tight.specs.Inner.Added.{spacingPast}
 use Rattle.tight.proofs.gaps.spacing_past.Statement.{statement}
 use Rattle.tight.proofs.gaps.spacing_past.Tie as tie
 

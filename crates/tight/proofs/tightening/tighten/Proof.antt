@@ -1,5 +1,5 @@
 use borrow.Author.Needs.{needs}
-use Rattle.tight.proofs.Answering.{refused-answer, refused-output, accepted-answer, accepted-output}
+use Rattle.calls.proofs.TextCalls.{refused-answer, refused-output, accepted-answer, accepted-output}
 use Rattle.tight.proofs.tightening.tighten.Statement.{statement}
 use Rattle.tight.proofs.tightening.tighten.Tie as tie
 
@@ -9,11 +9,11 @@ check-requires c κs = search needs
 enum-known-settings : tie.Need-enum-known-settings
 enum-known-settings c = search needs
 
-fill-output-requires : tie.Need-fill-output-requires
-fill-output-requires c κs = search needs
+write-output-requires : tie.Need-write-output-requires
+write-output-requires c κs = search needs
 
-enum-known-answer : tie.Need-enum-known-answer
-enum-known-answer c = search needs
+enum-known-refusal : tie.Need-enum-known-refusal
+enum-known-refusal c = search needs
 
 same-length : tie.Need-same-length
 same-length c = search needs
@@ -30,8 +30,8 @@ tighten-spec =
     (tie.spec
     check-requires
     enum-known-settings
-    fill-output-requires
-    enum-known-answer
+    write-output-requires
+    enum-known-refusal
     same-length
     returns
     returns-2)

@@ -1,4 +1,4 @@
--- The tight text one token after the other: each token's part, and what a gap becomes past it.
+-- The tight text one token after the other: what each token adds to it, and what a gap becomes past it.
 use Prim.Native.Nat.{ℕ, _+_}
 use mathlib.Core.Bool.{cond}
 use mathlib.Core.List.{List, [], _++_}
@@ -10,12 +10,12 @@ use Rattle.tight.specs.declared.Gap.the-variants.{Nothing}
 use Rattle.tight.specs.declared.Spacing.{Spacing}
 use Rattle.tight.specs.TightText.{isGap, gapAfter, gapBytes}
 
--- a gap has no part of its own
-unfoldable pub part : List ℕ → Gap → Token → List ℕ
-part s lead t = cond (isGap t) [] (gapBytes lead ++ value s t)
+-- a gap adds nothing of its own
+unfoldable pub added : List ℕ → Gap → Token → List ℕ
+added s lead t = cond (isGap t) [] (gapBytes lead ++ value s t)
 
-unfoldable pub partLength : Gap → Token → ℕ
-partLength lead t = cond (isGap t) 0 (length (gapBytes lead) + t .len)
+unfoldable pub addedLength : Gap → Token → ℕ
+addedLength lead t = cond (isGap t) 0 (length (gapBytes lead) + t .len)
 
 -- before the first token
 abbrev pub outside : Spacing

@@ -1,7 +1,7 @@
 use borrow.Author.Needs.{needs}
-use Rattle.tight.proofs.Parting.{value-room, value-put}
-use Rattle.tight.proofs.parts.put_value.Statement.{statement}
-use Rattle.tight.proofs.parts.put_value.Tie as tie
+use Rattle.tight.proofs.TightAdded.{value-room, value-put}
+use Rattle.tight.proofs.adding.put_value.Statement.{statement}
+use Rattle.tight.proofs.adding.put_value.Tie as tie
 
 add-end : tie.Need-add-end
 add-end c = search needs

@@ -1,4 +1,4 @@
--- A token's part: its length, its place in the tight text, and its bytes put into an output.
+-- What a token adds to the tight text: its length, its place in the text, and its bytes put into an output.
 -- Assumes nothing.
 use Prim.Native.Nat.{ℕ, _+_, _-_, _^_, _≤_, _<_}
 use native.Mathlib.Omega.{arith}
@@ -11,30 +11,30 @@ use mir.Syntax.{w64}
 use mir.Val.{Fits}
 use Rattle.tokenizer.specs.declared.Token.{Token}
 use Rattle.tokenizer.specs.Values.{value}
-use Rattle.tokenizer.proofs.RecordBytes.{both-put}
+use Rattle.calls.proofs.Storing.{both-put}
 use Rattle.tight.specs.declared.Gap.{Gap}
 use Rattle.tight.specs.declared.Gap.the-variants.{Nothing, LineFeed, Space}
 use Rattle.tight.specs.declared.Spacing.{Spacing}
 use Rattle.tight.specs.TightText.{isGap, gapAfter, gapBytes, tightFrom}
-use Rattle.tight.specs.Parts.{part, partLength, spacingPast}
+use Rattle.tight.specs.Inner.Added.{added, addedLength, spacingPast}
 
 pub gap-short : (gap : Gap) → length (gapBytes gap) ≤ 1
 gap-short Nothing = omega arith
 gap-short LineFeed = omega arith
 gap-short Space = omega arith
 
--- ---- the text from a token on: its part, and the text past it
+-- ---- the text from a token on: its added, and the text past it
 
 module _ (s : List ℕ) (spacing : Spacing) (t : Token) where
-  pub part-first : (ts : List Token)
+  pub added-first : (ts : List Token)
       → tightFrom s (spacing .here) (spacing .lead) (t ∷ ts)
-      ≡ part s (spacing .lead) t ++ tightFrom s (spacingPast spacing t .here) (spacingPast spacing t .lead) ts
-  unfolding tightFrom part spacingPast
-  part-first ts = go (isGap t) refl
+      ≡ added s (spacing .lead) t ++ tightFrom s (spacingPast spacing t .here) (spacingPast spacing t .lead) ts
+  unfolding tightFrom added spacingPast
+  added-first ts = go (isGap t) refl
     where
       go : (b : Bool) → isGap t ≡ b
           → tightFrom s (spacing .here) (spacing .lead) (t ∷ ts)
-          ≡ part s (spacing .lead) t ++ tightFrom s (spacingPast spacing t .here) (spacingPast spacing t .lead) ts
+          ≡ added s (spacing .lead) t ++ tightFrom s (spacingPast spacing t .here) (spacingPast spacing t .lead) ts
       go true e = rw (tightFrom, e)
       go false e = rw (tightFrom, e) (sym (append-assoc (gapBytes (spacing .lead)) (value s t) (tightFrom s (gapAfter (t .kind)) Nothing ts)))
 
@@ -42,21 +42,21 @@ module _ (s : List ℕ) (lead : Gap) (t : Token) where
   value-length : t .start + t .len ≤ length s → length (value s t) ≡ t .len
   value-length h = length-take-le (t .len) (drop (t .start) s) (rw length-drop (omega arith))
 
-  pub part-is-long : t .start + t .len ≤ length s → length (part s lead t) ≡ partLength lead t
-  unfolding part partLength
-  part-is-long h = go (isGap t) refl
+  pub added-is-long : t .start + t .len ≤ length s → length (added s lead t) ≡ addedLength lead t
+  unfolding added addedLength
+  added-is-long h = go (isGap t) refl
     where
-      go : (b : Bool) → isGap t ≡ b → length (part s lead t) ≡ partLength lead t
+      go : (b : Bool) → isGap t ≡ b → length (added s lead t) ≡ addedLength lead t
       go true e = rw e
       go false e = rw (e, length-append, value-length h)
 
 -- the lead past a token is no longer than what is read of it
 pub past-reach : (spacing : Spacing) (t : Token) (n i j : ℕ) → n + length (gapBytes (spacing .lead)) ≤ i → i + t .len ≡ j → i < j
-    → n + partLength (spacing .lead) t + length (gapBytes (spacingPast spacing t .lead)) ≤ j
-unfolding partLength spacingPast
+    → n + addedLength (spacing .lead) t + length (gapBytes (spacingPast spacing t .lead)) ≤ j
+unfolding addedLength spacingPast
 past-reach spacing t n i j h e k = go (isGap t) refl
   where
-    go : (b : Bool) → isGap t ≡ b → n + partLength (spacing .lead) t + length (gapBytes (spacingPast spacing t .lead)) ≤ j
+    go : (b : Bool) → isGap t ≡ b → n + addedLength (spacing .lead) t + length (gapBytes (spacingPast spacing t .lead)) ≤ j
     go true f = rw f (omega (arith, gap-short (spacing .here)))
     go false f = rw f (omega arith)
 
@@ -91,13 +91,13 @@ module _ (start len : ℕ) where
     value-put after e = e ∙ rw back
 
 module _ (s output : List ℕ) (at : ℕ) (lead : Gap) (t : Token) (r : Bool) (e : r ≡ isGap t) where
-  pub no-part : r ≡ true → output ≡ sets output at (part s lead t)
-  unfolding part
-  no-part f = rw (← e, f)
+  pub none-added : r ≡ true → output ≡ sets output at (added s lead t)
+  unfolding added
+  none-added f = rw (← e, f)
 
-  module _ (f : r ≡ false) (h : at + partLength lead t ≤ length output) where
+  module _ (f : r ≡ false) (h : at + addedLength lead t ≤ length output) where
     room : at + (length (gapBytes lead) + t .len) ≤ length output
-    unfolding partLength
+    unfolding addedLength
     room = rw (← e, f) at h
 
     pub gap-room : at + length (gapBytes lead) ≤ length output
@@ -111,6 +111,6 @@ module _ (s output : List ℕ) (at : ℕ) (lead : Gap) (t : Token) (r : Bool) (e
       behind-room between k = rw (k, length-sets) (omega (arith, room))
 
   module _ (f : r ≡ false) (n : ℕ) (g : n ≡ length (gapBytes lead)) (between after : List ℕ) where
-    pub part-put : between ≡ sets output at (gapBytes lead) → after ≡ sets between (at + n) (value s t) → after ≡ sets output at (part s lead t)
-    unfolding part
-    part-put k l = l ∙ rw (k, ← e, f, g) (both-put (gapBytes lead) (value s t) output at)
+    pub added-put : between ≡ sets output at (gapBytes lead) → after ≡ sets between (at + n) (value s t) → after ≡ sets output at (added s lead t)
+    unfolding added
+    added-put k l = l ∙ rw (k, ← e, f, g) (both-put (gapBytes lead) (value s t) output at)

@@ -1,13 +1,13 @@
 use borrow.Author.Needs.{needs}
-use Rattle.tight.proofs.Parting.{no-part, gap-room, behind-fits, behind-room, part-put}
-use Rattle.tight.proofs.parts.put_part.Statement.{statement}
-use Rattle.tight.proofs.parts.put_part.Tie as tie
+use Rattle.tight.proofs.TightAdded.{none-added, gap-room, behind-fits, behind-room, added-put}
+use Rattle.tight.proofs.adding.put_added.Statement.{statement}
+use Rattle.tight.proofs.adding.put_added.Tie as tie
 
 is-gap-requires : tie.Need-is-gap-requires
 is-gap-requires c κs = search needs
 
 returns : tie.Need-returns
-returns c = search no-part
+returns c = search none-added
 
 put-gap-requires : tie.Need-put-gap-requires
 put-gap-requires c κs = search gap-room
@@ -25,10 +25,10 @@ same-length : tie.Need-same-length
 same-length c = search needs
 
 returns-2 : tie.Need-returns-2
-returns-2 c = search part-put
+returns-2 c = search added-put
 
-pub put-part-spec : {M : Type 1} → statement M
-put-part-spec =
+pub put-added-spec : {M : Type 1} → statement M
+put-added-spec =
     tie.close
     (tie.spec
     is-gap-requires

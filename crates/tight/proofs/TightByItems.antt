@@ -14,8 +14,8 @@ use Rattle.tight.specs.declared.Gap.the-variants.{Nothing}
 use Rattle.tight.specs.TightText.{gapAfter, gapBytes, tightFrom, tight}
 use Rattle.tight.specs.TightText as T
 use Rattle.tight.specs.Agree.{Compared, compared, comparedAll, reading, isGap, onlyGaps}
-use Rattle.tight.proofs.Readings.{gapNext, items}
-use Rattle.tight.proofs.Again.{joint, render}
+use Rattle.tight.proofs.ReadingItems.{gapNext, items}
+use Rattle.tight.proofs.TightReading.{joint, render}
 
 only-items : (cs : List Compared) → onlyGaps cs ≡ true → items cs ≡ []
 unfolding onlyGaps items

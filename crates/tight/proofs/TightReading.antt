@@ -31,10 +31,10 @@ use Rattle.tight.specs.Agree.{meaning, onlyGaps}
 use Rattle.tight.specs.LoneReturn.{noLoneReturn}
 use Rattle.tight.proofs.Whitespace.{isBlank, none-blank}
 use Rattle.tight.proofs.Sim.{Separator, space, newline, at-end, Sim, nil, keep, same, swap, lose, blank, blank-sim, separator-blank, take-sim}
-use Rattle.tight.proofs.Lines.{isNil, Broken, at-nil, at-newline, later, no-lone-drop}
-use Rattle.tight.proofs.Alike.{part-of, byte-of}
-use Rattle.tight.proofs.AlikePieces.{piece-sim, told}
-use Rattle.tight.proofs.Readings.{pieceCompared, past, readFrom, read-none, read-one, afterGap, run-text, read-gap, Item, item, gapNext, items, is-gap, given-line, compared-no-gap}
+use Rattle.tight.proofs.LineComments.{isNil, Broken, at-nil, at-newline, later, no-lone-drop}
+use Rattle.tight.proofs.SimRecognisers.{part-of, byte-of}
+use Rattle.tight.proofs.SimPieces.{piece-sim, told}
+use Rattle.tight.proofs.ReadingItems.{pieceCompared, past, readFrom, read-none, read-one, afterGap, run-text, read-gap, Item, item, gapNext, items, is-gap, given-line, compared-no-gap}
 use Rattle.tight.proofs.GapRuns.{each-rest, gap-of}
 
 -- ---- one token of a reading

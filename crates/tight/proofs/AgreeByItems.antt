@@ -13,12 +13,12 @@ use Rattle.unicode.specs.Runs.{run}
 use Rattle.tokenizer.specs.declared.Memory.{Memory}
 use Rattle.calls.specs.declared.Settings.{Settings}
 use Rattle.tokenizer.specs.Memory.{start}
-use Rattle.tight.specs.Agree.{Compared, reading, isGap, words, innerGaps, Agree}
+use Rattle.tight.specs.Agree.{Compared, reading, isGap, withoutGaps, innerGaps, Agree}
 use Rattle.tight.proofs.Whitespace.{isBlank, none-blank}
-use Rattle.tight.proofs.Lines.{isNil}
-use Rattle.tight.proofs.Readings.{past, readFrom, reading-is, read-none, read-one, afterGap, run-text, gapCompared, read-gap, Item, item, gapNext, items, is-gap, compared-no-gap}
+use Rattle.tight.proofs.LineComments.{isNil}
+use Rattle.tight.proofs.ReadingItems.{past, readFrom, reading-is, read-none, read-one, afterGap, run-text, gapCompared, read-gap, Item, item, gapNext, items, is-gap, compared-no-gap}
 use Rattle.tight.proofs.GapRuns.{each-rest, gap-of}
-use Rattle.tight.proofs.Again.{found, only-gaps, inner, items-one}
+use Rattle.tight.proofs.TightReading.{found, only-gaps, inner, items-one}
 
 -- the tokens of items, and the places of the gaps behind them
 unfoldable strip : List Item → List Compared
@@ -29,12 +29,12 @@ unfoldable places : ℕ → List Item → List ℕ
 places n [] = []
 places n (item c gap ∷ is) = cond gap (suc n ∷ places (suc n) is) (places (suc n) is)
 
-words-strip : (cs : List Compared) → words cs ≡ strip (items cs)
-unfolding words items strip
-words-strip [] = refl
-words-strip (c ∷ cs) = go (isGap c) (words-strip cs)
+tokens-strip : (cs : List Compared) → withoutGaps cs ≡ strip (items cs)
+unfolding withoutGaps items strip
+tokens-strip [] = refl
+tokens-strip (c ∷ cs) = go (isGap c) (tokens-strip cs)
   where
-    go : (t : Bool) → words cs ≡ strip (items cs) → cond t (words cs) (c ∷ words cs) ≡ strip (cond t (items cs) (item c (gapNext cs) ∷ items cs))
+    go : (t : Bool) → withoutGaps cs ≡ strip (items cs) → cond t (withoutGaps cs) (c ∷ withoutGaps cs) ≡ strip (cond t (items cs) (item c (gapNext cs) ∷ items cs))
     go true h = h
     go false h = ap (λ (l : List Compared). c ∷ l) h
 
@@ -138,12 +138,12 @@ module _ (settings : Settings) (s t : List ℕ) where
   pub agree-items : Agree settings s t → items (reading settings s) ≡ items (reading settings t)
   agree-items a =
       items-same 0 (items (reading settings s)) (items (reading settings t))
-      (sym (words-strip (reading settings s)) ∙ a .same-tokens ∙ words-strip (reading settings t))
+      (sym (tokens-strip (reading settings s)) ∙ a .same-tokens ∙ tokens-strip (reading settings t))
       (sym (gaps-are settings s) ∙ a .same-gaps ∙ gaps-are settings t)
 
   pub items-agree : items (reading settings s) ≡ items (reading settings t) → Agree settings s t
   items-agree e =
       record {
-        same-tokens = words-strip (reading settings s) ∙ ap strip e ∙ sym (words-strip (reading settings t));
+        same-tokens = tokens-strip (reading settings s) ∙ ap strip e ∙ sym (tokens-strip (reading settings t));
         same-gaps = gaps-are settings s ∙ ap (places 0) e ∙ sym (gaps-are settings t);
       }

@@ -1,7 +1,7 @@
 use borrow.Author.Needs.{needs}
-use Rattle.tight.proofs.Parting.{line-room, space-room, nothing-put, line-put, space-put}
-use Rattle.tight.proofs.parts.put_gap.Statement.{statement}
-use Rattle.tight.proofs.parts.put_gap.Tie as tie
+use Rattle.tight.proofs.TightAdded.{line-room, space-room, nothing-put, line-put, space-put}
+use Rattle.tight.proofs.adding.put_gap.Statement.{statement}
+use Rattle.tight.proofs.adding.put_gap.Tie as tie
 
 enum-told : tie.Need-enum-told
 enum-told c = search needs

@@ -14,8 +14,8 @@ use Rattle.tokenizer.specs.Tokens.{stepAt, tokens}
 use Rattle.tokenizer.proofs.Steps.{left, step-moves, step-ends}
 use Rattle.tight.specs.declared.Spacing.{Spacing}
 use Rattle.tight.specs.TightText.{gapBytes, tightFrom, tight}
-use Rattle.tight.specs.Parts.{outside, spacingPast}
-use Rattle.tight.proofs.Parting.{part-first, part-is-long, past-reach}
+use Rattle.tight.specs.Inner.Added.{outside, spacingPast}
+use Rattle.tight.proofs.TightAdded.{added-first, added-is-long, past-reach}
 
 module _ (settings : Settings) (s : List ℕ) where
   abbrev textAt : Spacing → Cursor → List ℕ
@@ -37,9 +37,9 @@ module _ (settings : Settings) (s : List ℕ) where
       go (S.Token t c′) e ih =
           let m = step-moves settings s c t c′ e in
           let k = ih (spacingPast spacing t) c′ (omega (arith, m .on, m .inside)) in
-          let p = part-is-long s (spacing .lead) t (omega (arith, m .from, m .past, m .inside)) in
+          let p = added-is-long s (spacing .lead) t (omega (arith, m .from, m .past, m .inside)) in
           let q = past-reach spacing t 0 (length (gapBytes (spacing .lead))) (length (gapBytes (spacing .lead)) + t .len) (omega arith) refl (omega (arith, m .past, m .on)) in
-          rw (m .list, part-first s spacing t (left settings s c′), length-append, p) (omega (arith, k, q, m .past, m .inside))
+          rw (m .list, added-first s spacing t (left settings s c′), length-append, p) (omega (arith, k, q, m .past, m .inside))
       go S.Done e ih = rw (step-ends settings s c e) zero-le
 
   pub tight-short : length (tight settings s) ≤ length s

@@ -33,7 +33,7 @@ use Rattle.tokenizer.specs.Values.{value}
 use Rattle.tight.specs.Agree.{Meaning, meaning, Compared, compared, comparedAll, reading, isGap, onlyGaps}
 use Rattle.tight.proofs.Whitespace.{isBlank}
 use Rattle.tight.proofs.PieceKinds.{NoGap, next-no-gap}
-use Rattle.tight.proofs.AlikePieces.{no-blank}
+use Rattle.tight.proofs.SimPieces.{no-blank}
 
 -- ---- counted from where it stands
 
