@@ -15,19 +15,19 @@ use Rattle.tight.specs.Answers.{textAnswer, textAfter}
 use Rattle.params.specs.declared.Found.{Found}
 use Rattle.params.specs.Get.{ownText}
 use Rattle.params.specs.Filled.{isPlaceholder, standsFor, indexAfter, partBytes, filledFrom, filled}
-use Rattle.params.specs.Answers.{checkedWith, foundFirst, foundAt, lookupFound, fillAnswer, fillOutput}
+use Rattle.params.specs.Answers.{checkedWith, foundFor, foundFirst, foundAt, lookupFound, lookupBytes, lookupCounter, fillAnswer, fillOutput}
 
 -- the bytes of so many lookups, from a place and a counter on, laid end to end
 unfoldable pub lookups : List ℕ → ℕ → ℕ → ℕ → List ℕ → ℕ → ℕ → ℕ → List ℕ
 lookups s dialect joins named sheet zero place counter = []
 lookups s dialect joins named sheet (suc n) place counter =
-    partBytes s sheet (lookupFound s dialect joins named sheet place counter .part)
-    ++ lookups s dialect joins named sheet n (suc place) (lookupFound s dialect joins named sheet place counter .counter)
+    lookupBytes s dialect joins named sheet place counter
+    ++ lookups s dialect joins named sheet n (suc place) (lookupCounter s dialect joins named sheet place counter)
 
 module _ (s : List ℕ) (dialect joins named : ℕ) (sheet : List ℕ) (settings : Settings) (e : checkedWith s dialect joins named sheet ≡ Accepted settings) where
   -- a lookup is what stands for the token there
   there : (place counter : ℕ) (t : Token) (ts : List Token) → drop place (tokens settings s) ≡ t ∷ ts
-      → lookupFound s dialect joins named sheet place counter ≡ record { part = standsFor s sheet counter t; counter = indexAfter s sheet counter t }
+      → lookupFound s dialect joins named sheet place counter ≡ foundFor s sheet counter t
   unfolding lookupFound foundAt foundFirst
   there place counter t ts f =
       (let z : lookupFound s dialect joins named sheet place counter ≡ foundAt settings s sheet place counter = rw e in z)

@@ -19,8 +19,9 @@ use Rattle.params.specs.declared.QueryParams.{QueryParams}
 use Rattle.params.specs.declared.QueryParams.the-variants as Q
 use Rattle.params.specs.Sheet.{paramsOf, countOf, placeOf}
 use Rattle.params.specs.Keys.{hasKey, hasName, hasNoIndex}
-use Rattle.params.specs.Get.{withName, byName, byIndex, taken, ownText, valueOr, get, countedOn, indexPast}
+use Rattle.params.specs.Get.{withName, byName, byIndex, taken, ownText, valueOr, get, countedOn, indexFrom, indexPast}
 use Rattle.params.specs.Carried.{upTo, paramsAt}
+use Rattle.params.specs.Cases.{namedPart, indexedPart, indexedPast}
 use Rattle.params.specs.Filled.{isPlaceholder, standsFor, indexAfter}
 use Rattle.params.proofs.Standing.{entry-of, turn-entry}
 
@@ -57,20 +58,20 @@ module _ (sheet : List ℕ) where
   module _ (s : List ℕ) (t : Token) where
     module _ (b : Bool) (e : b ≡ hasKey (t .key)) where
       pub keyed : (p : Place) (r : Part) → b ≡ true → p ≡ placeOf sheet (withName sheet (keyText s (t .key))) → r ≡ valueOr sheet (p .entry) t
-          → r ≡ valueOr sheet (byName s sheet (t .key)) t
+          → r ≡ namedPart s sheet t
       unfolding byName
       keyed p r f g h = h ∙ rw (← e, f, entry-of sheet p (withName sheet (keyText s (t .key))) g)
 
-      pub keyless : (r : Part) → b ≡ false → r ≡ ownText t → r ≡ valueOr sheet (byName s sheet (t .key)) t
+      pub keyless : (r : Part) → b ≡ false → r ≡ ownText t → r ≡ namedPart s sheet t
       unfolding byName
       keyless r f g = g ∙ none-taken t ∙ rw (← e, f)
 
     module _ (index : ℕ) (b : Bool) (e : b ≡ hasName s (t .key)) where
-      pub name-kept : (r : Part) → b ≡ true → r ≡ ownText t → r ≡ valueOr sheet (cond (hasName s (t .key)) (countOf sheet) (byIndex sheet index (t .key))) t
+      pub name-kept : (r : Part) → b ≡ true → r ≡ ownText t → r ≡ indexedPart s sheet index t
       name-kept r f g = g ∙ none-taken t ∙ rw (← e, f)
 
       pub numbered : (n : ℕ) (r : Part) → b ≡ false → n ≡ byIndex sheet index (t .key) → r ≡ valueOr sheet n t
-          → r ≡ valueOr sheet (cond (hasName s (t .key)) (countOf sheet) (byIndex sheet index (t .key))) t
+          → r ≡ indexedPart s sheet index t
       numbered n r f g h = h ∙ rw (← e, f, g)
 
     module _ (params : Params) (at : params ≡ paramsAt sheet (params .index)) (b : Bool) (e : b ≡ hasName s (t .key)) (d : Bool) (g : d ≡ hasNoIndex (t .key)) where
@@ -86,7 +87,7 @@ module _ (sheet : List ℕ) where
               ∙ (let z : ownText t ≡ valueOr sheet (params .index) t = rw f in z)
 
       pub turn-taken : (r : Part) → b ≡ false → d ≡ true → r ≡ valueOr sheet (params .next .entry) t
-          → r ≡ valueOr sheet (cond (hasName s (t .key)) (countOf sheet) (byIndex sheet (params .index) (t .key))) t
+          → r ≡ indexedPart s sheet (params .index) t
       turn-taken r f k h =
           h
           ∙ ap (λ (n : ℕ). valueOr sheet n t) (turn-entry sheet params at)
@@ -98,11 +99,11 @@ module _ (sheet : List ℕ) where
       unfolding get taken
       get-none f g = g ∙ none-taken t ∙ rw (← e, f)
 
-      pub get-named : q ≡ Q.Named → r ≡ valueOr sheet (byName s sheet (t .key)) t → r ≡ get s sheet index t
+      pub get-named : q ≡ Q.Named → r ≡ namedPart s sheet t → r ≡ get s sheet index t
       unfolding get taken
       get-named f g = g ∙ rw (← e, f)
 
-      pub get-indexed : q ≡ Q.Indexed → r ≡ valueOr sheet (cond (hasName s (t .key)) (countOf sheet) (byIndex sheet index (t .key))) t → r ≡ get s sheet index t
+      pub get-indexed : q ≡ Q.Indexed → r ≡ indexedPart s sheet index t → r ≡ get s sheet index t
       unfolding get taken
       get-indexed f g = g ∙ rw (← e, f)
 
@@ -118,19 +119,16 @@ module _ (sheet : List ℕ) where
   -- ---- the counter past it
 
   module _ (s : List ℕ) (key : Key) (params : Params) where
-    abbrev moved : Params
-    moved = paramsAt sheet (cond (hasName s key) (params .index) (cond (hasNoIndex key) (countedOn (params .index)) (params .index)))
-
     module _ (b : Bool) (e : b ≡ hasName s key) where
-      pub name-past : b ≡ true → params ≡ paramsAt sheet (params .index) → params ≡ moved
-      name-past f at = at ∙ ap (paramsAt sheet) (let z : params .index ≡ cond (hasName s key) (params .index) (cond (hasNoIndex key) (countedOn (params .index)) (params .index)) = rw (← e, f) in z)
+      pub name-past : b ≡ true → params ≡ paramsAt sheet (params .index) → params ≡ indexedPast s sheet (params .index) key
+      name-past f at = at ∙ ap (paramsAt sheet) (let z : params .index ≡ indexFrom Q.Indexed s (params .index) key = rw (← e, f) in z)
 
       module _ (d : Bool) (g : d ≡ hasNoIndex key) (f : b ≡ false) where
-        pub turn-past : (r : Params) → d ≡ true → r ≡ paramsAt sheet (countedOn (params .index)) → r ≡ moved
+        pub turn-past : (r : Params) → d ≡ true → r ≡ paramsAt sheet (countedOn (params .index)) → r ≡ indexedPast s sheet (params .index) key
         turn-past r k h = h ∙ rw (← e, f, ← g, k)
 
-        pub index-past : d ≡ false → params ≡ paramsAt sheet (params .index) → params ≡ moved
-        index-past k at = at ∙ ap (paramsAt sheet) (let z : params .index ≡ cond (hasName s key) (params .index) (cond (hasNoIndex key) (countedOn (params .index)) (params .index)) = rw (← e, f, ← g, k) in z)
+        pub index-past : d ≡ false → params ≡ paramsAt sheet (params .index) → params ≡ indexedPast s sheet (params .index) key
+        index-past k at = at ∙ ap (paramsAt sheet) (let z : params .index ≡ indexFrom Q.Indexed s (params .index) key = rw (← e, f, ← g, k) in z)
 
     module _ (q : QueryParams) (e : q ≡ paramsOf sheet) where
       pub none-past : q ≡ Q.None → params ≡ paramsAt sheet (params .index) → params ≡ paramsAt sheet (indexPast s sheet (params .index) key)
@@ -141,7 +139,7 @@ module _ (sheet : List ℕ) where
       unfolding indexPast
       named-past f at = at ∙ ap (paramsAt sheet) (let z : params .index ≡ indexPast s sheet (params .index) key = rw (← e, f) in z)
 
-      pub indexed-past : (r : Params) → q ≡ Q.Indexed → r ≡ moved → r ≡ paramsAt sheet (indexPast s sheet (params .index) key)
+      pub indexed-past : (r : Params) → q ≡ Q.Indexed → r ≡ indexedPast s sheet (params .index) key → r ≡ paramsAt sheet (indexPast s sheet (params .index) key)
       unfolding indexPast
       indexed-past r f g = g ∙ rw (← e, f)
 

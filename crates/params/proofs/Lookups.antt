@@ -5,7 +5,7 @@ use native.Mathlib.Omega.{arith}
 use mathlib.Core.Path.{_≡_, refl, sym, ap, _∙_}
 use mathlib.Core.Bool.{true}
 use mathlib.Core.List.{List, _∷_}
-use lib.ListN.{length, take, drop}
+use lib.ListN.{length, drop}
 use lib.Seq.{drop-nil}
 use Rattle.tokenizer.specs.declared.Answer.{Answer}
 use Rattle.calls.specs.declared.Checked.{Checked}
@@ -22,11 +22,12 @@ use Rattle.tokenizer.proofs.Steps.{left, step-moves, step-less, step-ends}
 use Rattle.params.specs.declared.Found.{Found}
 use Rattle.params.specs.declared.Params.{Params}
 use Rattle.params.specs.declared.Part.{Part}
+use Rattle.params.specs.declared.Part.the-variants as P
 use Rattle.params.specs.Sheet.{isSheet}
 use Rattle.params.specs.Inside.{keyEnd, PartInside}
 use Rattle.params.specs.Carried.{paramsAt}
 use Rattle.params.specs.Filled.{standsFor, indexAfter, partBytes, partLength, partStart}
-use Rattle.params.specs.Answers.{checkedWith, nothingFound, foundFirst, foundAt, lookupFound, lookupNumber, lookupDetail}
+use Rattle.params.specs.Answers.{checkedWith, nothingFound, foundFor, foundFirst, foundAt, lookupFound, lookupPart, lookupCounter, lookupNumber, lookupDetail}
 use Rattle.params.proofs.Reading.{step-inside, step-key, stands-inside}
 
 -- ---- one token
@@ -40,7 +41,7 @@ module _ (s sheet : List ℕ) (counter : ℕ) (t : Token) (params : Params) (at 
   found-turn = at ∙ ap (paramsAt sheet) (sym index-is)
 
   pub found-told : (p : Part) (past : Params) → p ≡ standsFor s sheet (params .index) t → past ≡ paramsAt sheet (indexAfter s sheet (params .index) t)
-      → _≡_ {A = Found} (record { part = p; counter = past .index }) (record { part = standsFor s sheet counter t; counter = indexAfter s sheet counter t })
+      → _≡_ {A = Found} (record { part = p; counter = past .index }) (foundFor s sheet counter t)
   unfolding paramsAt
   found-told p past e f =
       let g : past .index ≡ indexAfter s sheet (params .index) t = ap (λ (q : Params). q .index) f in
@@ -74,8 +75,7 @@ module _ (settings : Settings) (s : List ℕ) (place : ℕ) where
           go zero d = absurd (d refl)
           go (suc k) d = let z : suc k - 1 ≡ k = omega arith in rw z
 
-      module _ (sheet : List ℕ) (counter : ℕ) (z : ahead ≡ 0) (found : Found)
-          (g : found ≡ record { part = standsFor s sheet counter t; counter = indexAfter s sheet counter t }) where
+      module _ (sheet : List ℕ) (counter : ℕ) (z : ahead ≡ 0) (found : Found) (g : found ≡ foundFor s sheet counter t) where
         pub find-found : found ≡ foundAt settings s sheet place counter
         unfolding foundAt foundFirst
         find-found = g ∙ sym (ap (foundFirst s sheet counter) (here ∙ ap (λ (k : ℕ). drop k (t ∷ left settings s c′)) z))
@@ -94,24 +94,7 @@ module _ (settings : Settings) (s : List ℕ) (place : ℕ) where
       unfolding nothingFound
       none-inside = let p : found .part ≡ nothingFound counter .part = ap (λ (q : Found). q .part) g in rw p zero-le
 
--- ---- what is handed back, and what is told
-
-module _ (found sought : Found) (e : found ≡ sought) where
-  part-is : found .part ≡ sought .part
-  part-is = ap (λ (q : Found). q .part) e
-
-  module _ (s sheet : List ℕ) where
-    pub back-bytes : (bytes : List ℕ) → bytes ≡ partBytes s sheet (found .part) → bytes ≡ partBytes s sheet (sought .part)
-    back-bytes bytes f = f ∙ ap (partBytes s sheet) part-is
-
-  pub back-start : (a b at : ℕ × ℕ) → at ≡ partStart a b (found .part) → at ≡ partStart a b (sought .part)
-  back-start a b at f = f ∙ ap (partStart a b) part-is
-
-  pub back-counter : found .counter ≡ sought .counter
-  back-counter = ap (λ (q : Found). q .counter) e
-
-  pub back-detail : (n : ℕ) → n ≡ partLength (found .part) → n ≡ partLength (sought .part)
-  back-detail n f = f ∙ ap partLength part-is
+-- ---- what is told
 
 module _ (s : List ℕ) (dialect joins named : ℕ) (sheet : List ℕ) (r : Checked) (e : r ≡ checkedWith s dialect joins named sheet) where
   module _ (settings : Settings) (k : r ≡ Accepted settings) where
@@ -119,23 +102,23 @@ module _ (s : List ℕ) (dialect joins named : ℕ) (sheet : List ℕ) (r : Chec
     unfolding lookupNumber
     accepted-number = rw (← e, k)
 
-    module _ (place counter : ℕ) where
-      found-is : foundAt settings s sheet place counter ≡ lookupFound s dialect joins named sheet place counter
+    module _ (place counter : ℕ) (found : Found) (f : found ≡ foundAt settings s sheet place counter) where
+      found-is : found ≡ lookupFound s dialect joins named sheet place counter
       unfolding lookupFound
-      found-is = rw (← e, k)
+      found-is = f ∙ rw (← e, k)
 
-      pub accepted-bytes : (bytes : List ℕ) → bytes ≡ partBytes s sheet (foundAt settings s sheet place counter .part) → bytes ≡ partBytes s sheet (lookupFound s dialect joins named sheet place counter .part)
-      accepted-bytes bytes f = back-bytes _ _ found-is s sheet bytes f
+      pub accepted-part : found .part ≡ lookupPart s dialect joins named sheet place counter
+      accepted-part = ap (λ (q : Found). q .part) found-is
 
-      pub accepted-start : (a b at : ℕ × ℕ) → at ≡ partStart a b (foundAt settings s sheet place counter .part) → at ≡ partStart a b (lookupFound s dialect joins named sheet place counter .part)
-      accepted-start a b at f = back-start _ _ found-is a b at f
+      pub accepted-counter : found .counter ≡ lookupCounter s dialect joins named sheet place counter
+      accepted-counter = ap (λ (q : Found). q .counter) found-is
 
-      pub accepted-counter : (n : ℕ) → n ≡ foundAt settings s sheet place counter .counter → n ≡ lookupFound s dialect joins named sheet place counter .counter
-      accepted-counter n f = f ∙ back-counter _ _ found-is
-
-      pub accepted-detail : (n : ℕ) → n ≡ partLength (foundAt settings s sheet place counter .part) → n ≡ lookupDetail s dialect joins named sheet place counter
+      pub accepted-detail : (n : ℕ) → n ≡ partLength (found .part) → n ≡ lookupDetail s dialect joins named sheet place counter
       unfolding lookupDetail
-      accepted-detail n f = f ∙ ap (λ (q : Found). partLength (q .part)) found-is ∙ (let z : partLength (lookupFound s dialect joins named sheet place counter .part) ≡ lookupDetail s dialect joins named sheet place counter = rw (← e, k) in z)
+      accepted-detail n g =
+          g
+          ∙ ap partLength accepted-part
+          ∙ (let z : partLength (lookupPart s dialect joins named sheet place counter) ≡ lookupDetail s dialect joins named sheet place counter = rw (← e, k) in z)
 
   module _ (answer : Answer) (k : r ≡ Refused answer) where
     pub refused-number : (n : ℕ) → n ≡ answerNumber answer → n ≡ lookupNumber s dialect joins named sheet
@@ -147,21 +130,23 @@ module _ (s : List ℕ) (dialect joins named : ℕ) (sheet : List ℕ) (r : Chec
       unfolding lookupFound
       nothing-is = rw (← e, k)
 
-      pub refused-bytes : take 0 s ≡ partBytes s sheet (lookupFound s dialect joins named sheet place counter .part)
+      pub refused-part : P.Statement 0 0 ≡ lookupPart s dialect joins named sheet place counter
       unfolding nothingFound
-      refused-bytes = ap (λ (q : Found). partBytes s sheet (q .part)) nothing-is
+      refused-part = ap (λ (q : Found). q .part) nothing-is
 
-      pub refused-start : (a b : ℕ × ℕ) → a ≡ partStart a b (lookupFound s dialect joins named sheet place counter .part)
-      unfolding nothingFound
-      refused-start a b = (let z : a ≡ (a .0, 0 + a .1) = same-pair (0 + a .1) (omega arith) in z) ∙ ap (λ (q : Found). partStart a b (q .part)) nothing-is
-        where
-          same-pair : (y : ℕ) → y ≡ a .1 → a ≡ (a .0, y)
-          same-pair y f = rw f
-
-      pub refused-counter : counter ≡ lookupFound s dialect joins named sheet place counter .counter
+      pub refused-counter : counter ≡ lookupCounter s dialect joins named sheet place counter
       unfolding nothingFound
       refused-counter = ap (λ (q : Found). q .counter) nothing-is
 
       pub refused-detail : (n : ℕ) → n ≡ answerDetail answer → n ≡ lookupDetail s dialect joins named sheet place counter
       unfolding lookupDetail
       refused-detail n f = f ∙ rw (← e, k)
+
+-- ---- what is handed back
+
+module _ (p sought : Part) (e : p ≡ sought) where
+  pub handed-bytes : (s sheet bytes : List ℕ) → bytes ≡ partBytes s sheet p → bytes ≡ partBytes s sheet sought
+  handed-bytes s sheet bytes f = f ∙ ap (partBytes s sheet) e
+
+  pub handed-start : (a b at : ℕ × ℕ) → at ≡ partStart a b p → at ≡ partStart a b sought
+  handed-start a b at f = f ∙ ap (partStart a b) e

@@ -3,6 +3,7 @@ use Prim.Native.Nat.{ℕ}
 use mathlib.Core.Bool.{cond}
 use mathlib.Core.List.{List, [], _∷_}
 use lib.ListN.{drop}
+use denote.Ref.{RefT, now}
 use Rattle.tokenizer.specs.declared.Answer.{Answer}
 use Rattle.tokenizer.specs.declared.Answer.the-variants as A
 use Rattle.calls.specs.declared.Checked.{Checked}
@@ -13,9 +14,10 @@ use Rattle.tokenizer.specs.Answers.{answerNumber, answerDetail, checked}
 use Rattle.tokenizer.specs.Tokens.{tokens}
 use Rattle.tight.specs.Answers.{textAnswer, textAfter}
 use Rattle.params.specs.declared.Found.{Found}
+use Rattle.params.specs.declared.Part.{Part}
 use Rattle.params.specs.declared.Part.the-variants as P
 use Rattle.params.specs.Sheet.{isSheet}
-use Rattle.params.specs.Filled.{standsFor, indexAfter, partLength, filled}
+use Rattle.params.specs.Filled.{standsFor, indexAfter, partBytes, partLength, partStart, filled}
 
 -- a malformed sheet is refused once the statement and the settings are accepted
 abbrev pub withSheet : List ℕ → Checked → Checked
@@ -49,12 +51,16 @@ fillOutput s dialect joins named sheet output = outputAfter s sheet output (chec
 unfoldable pub nothingFound : ℕ → Found
 nothingFound counter = record { part = P.Statement 0 0; counter = counter }
 
--- what stands for the first of these tokens, and the counter past it
+-- what stands for a token, and the counter past it
+abbrev pub foundFor : List ℕ → List ℕ → ℕ → Token → Found
+foundFor s sheet counter t = record { part = standsFor s sheet counter t; counter = indexAfter s sheet counter t }
+
+-- the same of the first of these tokens
 unfoldable pub foundFirst : List ℕ → List ℕ → ℕ → List Token → Found
 foundFirst s sheet counter [] = nothingFound counter
-foundFirst s sheet counter (t ∷ ts) = record { part = standsFor s sheet counter t; counter = indexAfter s sheet counter t }
+foundFirst s sheet counter (t ∷ ts) = foundFor s sheet counter t
 
--- the same of the token at a place in the list
+-- of the token at a place in the list
 unfoldable pub foundAt : Settings → List ℕ → List ℕ → ℕ → ℕ → Found
 foundAt settings s sheet place counter = foundFirst s sheet counter (drop place (tokens settings s))
 
@@ -65,6 +71,21 @@ foundOf s sheet place counter (Refused answer) = nothingFound counter
 -- the part handed back, of the statement or of the sheet, and the counter afterwards
 unfoldable pub lookupFound : List ℕ → ℕ → ℕ → ℕ → List ℕ → ℕ → ℕ → Found
 lookupFound s dialect joins named sheet place counter = foundOf s sheet place counter (checkedWith s dialect joins named sheet)
+
+abbrev pub lookupPart : List ℕ → ℕ → ℕ → ℕ → List ℕ → ℕ → ℕ → Part
+lookupPart s dialect joins named sheet place counter = lookupFound s dialect joins named sheet place counter .part
+
+abbrev pub lookupCounter : List ℕ → ℕ → ℕ → ℕ → List ℕ → ℕ → ℕ → ℕ
+lookupCounter s dialect joins named sheet place counter = lookupFound s dialect joins named sheet place counter .counter
+
+-- the bytes of the part
+abbrev pub lookupBytes : List ℕ → ℕ → ℕ → ℕ → List ℕ → ℕ → ℕ → List ℕ
+lookupBytes s dialect joins named sheet place counter = partBytes s sheet (lookupPart s dialect joins named sheet place counter)
+
+-- where it starts in memory, for a statement and a sheet that lie there
+abbrev pub lookupStart : RefT (List ℕ) → ℕ → ℕ → ℕ → RefT (List ℕ) → ℕ → ℕ → ℕ × ℕ
+lookupStart s dialect joins named sheet place counter =
+    partStart (s .ptr) (sheet .ptr) (lookupPart (now s) dialect joins named (now sheet) place counter)
 
 abbrev pub numberOf : Checked → ℕ
 numberOf (Accepted settings) = 0

@@ -1,4 +1,4 @@
--- What the loop of fill carries: the counter, and the place of the value that is next in turn.
+-- For inner contracts alone: what the loop of fill carries, the counter, and the place of the value that is next in turn.
 use Prim.Native.Nat.{ℕ}
 use mathlib.Core.Bool.{cond}
 use mathlib.Core.List.{List}

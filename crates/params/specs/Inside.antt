@@ -1,4 +1,4 @@
--- What lies inside the statement or the sheet.
+-- For inner contracts and for that of `lookup_part`: what lies inside the statement or the sheet.
 use Prim.Native.Nat.{ℕ, _+_, _≤_}
 use mathlib.Core.List.{List}
 use lib.ListN.{length}

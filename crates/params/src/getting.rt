@@ -16,20 +16,21 @@ use recognisers::TokenKind;
 use recognisers::is_kind;
 use tokenizer::Token;
 ghost use mathlib.Core.Path.{_≡_};
-ghost use mathlib.Core.Bool.{true, cond};
+ghost use mathlib.Core.Bool.{true};
 ghost use Prim.Native.Nat.{_≤_};
 ghost use lib.ListN.{length};
-ghost use Rattle.params.specs.Sheet.{countOf, isSheet};
-ghost use Rattle.params.specs.Keys.{hasName, hasNoIndex};
+ghost use Rattle.params.specs.Sheet.{isSheet};
+ghost use Rattle.params.specs.Keys.{hasNoIndex};
 ghost use Rattle.params.specs.Inside.{keyEnd};
-ghost use Rattle.params.specs.Get.{byName, byIndex, valueOr, get, countedOn, indexPast};
+ghost use Rattle.params.specs.Get.{byIndex, get, indexPast};
 ghost use Rattle.params.specs.Carried.{paramsAt};
+ghost use Rattle.params.specs.Cases.{namedPart, indexedPart, indexedPast};
 ghost use Rattle.params.specs.Filled.{standsFor, indexAfter};
 
 fn get_named(statement: &[u8], sheet: &[u8], token: Token) -> Part
     requires { ⌜ isSheet (now sheet) ≡ true ⌝ }
     requires { ⌜ keyEnd (token .key) ≤ length (now statement) ⌝ }
-    ensures { λ r. ⌜ r ≡ valueOr (now (sheet .entry)) (byName (now (statement .entry)) (now (sheet .entry)) (token .key)) token ⌝ }
+    ensures { λ r. ⌜ r ≡ namedPart (now (statement .entry)) (now (sheet .entry)) token ⌝ }
 {
     let key = token.key;
     if has_key(key) {
@@ -73,7 +74,7 @@ fn get_indexed(statement: &[u8], sheet: &[u8], params: Params, token: Token) -> 
     requires { ⌜ isSheet (now sheet) ≡ true ⌝ }
     requires { ⌜ keyEnd (token .key) ≤ length (now statement) ⌝ }
     requires { ⌜ params ≡ paramsAt (now sheet) (params .index) ⌝ }
-    ensures { λ r. ⌜ r ≡ valueOr (now (sheet .entry)) (cond (hasName (now (statement .entry)) (token .key)) (countOf (now (sheet .entry))) (byIndex (now (sheet .entry)) (params .index) (token .key))) token ⌝ }
+    ensures { λ r. ⌜ r ≡ indexedPart (now (statement .entry)) (now (sheet .entry)) (params .index) token ⌝ }
 {
     let key = token.key;
     let next = params.next;
@@ -117,7 +118,7 @@ fn past_indexed(statement: &[u8], sheet: &[u8], params: Params, key: Key) -> Par
     requires { ⌜ isSheet (now sheet) ≡ true ⌝ }
     requires { ⌜ keyEnd key ≤ length (now statement) ⌝ }
     requires { ⌜ params ≡ paramsAt (now sheet) (params .index) ⌝ }
-    ensures { λ r. ⌜ r ≡ paramsAt (now (sheet .entry)) (cond (hasName (now (statement .entry)) key) (params .index) (cond (hasNoIndex key) (countedOn (params .index)) (params .index))) ⌝ }
+    ensures { λ r. ⌜ r ≡ indexedPast (now (statement .entry)) (now (sheet .entry)) (params .index) key ⌝ }
 {
     if has_name(statement, key) {
         return params;

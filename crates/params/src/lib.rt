@@ -10,6 +10,7 @@ mod text;
 
 pub use filling::fill;
 pub use looking::lookup;
+pub use looking::lookup_part;
 pub use sheet::is_sheet;
 
 // What a sheet holds.

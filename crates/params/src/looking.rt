@@ -22,8 +22,7 @@ ghost use Prim.Native.Nat.{_≤_};
 ghost use lib.ListN.{length};
 ghost use Rattle.params.specs.Sheet.{isSheet};
 ghost use Rattle.params.specs.Inside.{keyEnd, PartInside};
-ghost use Rattle.params.specs.Filled.{standsFor, indexAfter, partBytes, partLength, partStart};
-ghost use Rattle.params.specs.Answers.{nothingFound, foundAt, lookupFound, lookupNumber, lookupDetail};
+ghost use Rattle.params.specs.Answers.{nothingFound, foundFor, foundAt, lookupPart, lookupBytes, lookupStart, lookupCounter, lookupNumber, lookupDetail};
 
 // The empty start of the statement.
 fn nothing_found(counter: u64) -> Found
@@ -38,7 +37,7 @@ fn nothing_found(counter: u64) -> Found
 fn found_for(statement: &[u8], sheet: &[u8], counter: u64, token: Token) -> Found
     requires { ⌜ isSheet (now sheet) ≡ true ⌝ }
     requires { ⌜ keyEnd (token .key) ≤ length (now statement) ⌝ }
-    ensures { λ r. ⌜ r ≡ record { part = standsFor (now (statement .entry)) (now (sheet .entry)) counter token; counter = indexAfter (now (statement .entry)) (now (sheet .entry)) counter token } ⌝ }
+    ensures { λ r. ⌜ r ≡ foundFor (now (statement .entry)) (now (sheet .entry)) counter token ⌝ }
 {
     let params = params_at(sheet, counter);
     let part = stands_for(statement, sheet, params, token);
@@ -73,28 +72,43 @@ fn find(statement: &[u8], settings: Settings, sheet: &[u8], place: usize, counte
     }
 }
 
-fn hand_back<'a>(
-    statement: &'a [u8],
-    settings: Settings,
-    sheet: &'a [u8],
+// The part by its place, with all that a lookup tells.
+pub fn lookup_part(
+    statement: &[u8],
+    dialect: u64,
+    joins: u64,
+    named: u64,
+    sheet: &[u8],
     place: usize,
     counter: &mut u64,
+    number: &mut u64,
     detail: &mut u64,
-) -> &'a [u8]
-    requires { ⌜ isSheet (now sheet) ≡ true ⌝ }
-    ensures { λ r. ⌜ now r ≡ partBytes (now (statement .entry)) (now (sheet .entry)) (foundAt settings (now (statement .entry)) (now (sheet .entry)) place (now (counter .entry)) .part) ⌝ }
-    ensures { λ r. ⌜ r .ptr ≡ partStart (statement .entry .ptr) (sheet .entry .ptr) (foundAt settings (now (statement .entry)) (now (sheet .entry)) place (now (counter .entry)) .part) ⌝ }
-    ensures { λ _. ⌜ now (counter .exit) ≡ foundAt settings (now (statement .entry)) (now (sheet .entry)) place (now (counter .entry)) .counter ⌝ }
-    ensures { λ _. ⌜ now (detail .exit) ≡ partLength (foundAt settings (now (statement .entry)) (now (sheet .entry)) place (now (counter .entry)) .part) ⌝ }
+) -> Part
+    ensures { λ r. ⌜ r ≡ lookupPart (now (statement .entry)) dialect joins named (now (sheet .entry)) place (now (counter .entry)) ⌝ }
+    ensures { λ r. ⌜ PartInside (now (statement .entry)) (now (sheet .entry)) r ⌝ }
+    ensures { λ _. ⌜ now (counter .exit) ≡ lookupCounter (now (statement .entry)) dialect joins named (now (sheet .entry)) place (now (counter .entry)) ⌝ }
+    ensures { λ _. ⌜ now (number .exit) ≡ lookupNumber (now (statement .entry)) dialect joins named (now (sheet .entry)) ⌝ }
+    ensures { λ _. ⌜ now (detail .exit) ≡ lookupDetail (now (statement .entry)) dialect joins named (now (sheet .entry)) place (now (counter .entry)) ⌝ }
 {
-    let found = find(statement, settings, sheet, place, *counter);
-    let part = found.part;
-    *counter = found.counter;
-    *detail = part_length(part) as u64;
-    part_of(statement, sheet, part)
+    match check_with(statement, dialect, joins, named, sheet) {
+        Checked::Accepted(settings) => {
+            let found = find(statement, settings, sheet, place, *counter);
+            let part = found.part;
+            *counter = found.counter;
+            *number = 0;
+            *detail = part_length(part) as u64;
+            part
+        }
+        Checked::Refused(answer) => {
+            *number = answer_number(answer);
+            *detail = answer_detail(answer);
+            Part::Statement { start: 0, len: 0 }
+        }
+    }
 }
 
-pub fn lookup<'a>(
+// The lookup for a statement and a sheet that share a lifetime.
+fn lookup_together<'a>(
     statement: &'a [u8],
     dialect: u64,
     joins: u64,
@@ -105,21 +119,53 @@ pub fn lookup<'a>(
     number: &mut u64,
     detail: &mut u64,
 ) -> &'a [u8]
-    ensures { λ r. ⌜ now r ≡ partBytes (now (statement .entry)) (now (sheet .entry)) (lookupFound (now (statement .entry)) dialect joins named (now (sheet .entry)) place (now (counter .entry)) .part) ⌝ }
-    ensures { λ r. ⌜ r .ptr ≡ partStart (statement .entry .ptr) (sheet .entry .ptr) (lookupFound (now (statement .entry)) dialect joins named (now (sheet .entry)) place (now (counter .entry)) .part) ⌝ }
-    ensures { λ _. ⌜ now (counter .exit) ≡ lookupFound (now (statement .entry)) dialect joins named (now (sheet .entry)) place (now (counter .entry)) .counter ⌝ }
+    ensures { λ r. ⌜ now r ≡ lookupBytes (now (statement .entry)) dialect joins named (now (sheet .entry)) place (now (counter .entry)) ⌝ }
+    ensures { λ r. ⌜ r .ptr ≡ lookupStart (statement .entry) dialect joins named (sheet .entry) place (now (counter .entry)) ⌝ }
+    ensures { λ _. ⌜ now (counter .exit) ≡ lookupCounter (now (statement .entry)) dialect joins named (now (sheet .entry)) place (now (counter .entry)) ⌝ }
     ensures { λ _. ⌜ now (number .exit) ≡ lookupNumber (now (statement .entry)) dialect joins named (now (sheet .entry)) ⌝ }
     ensures { λ _. ⌜ now (detail .exit) ≡ lookupDetail (now (statement .entry)) dialect joins named (now (sheet .entry)) place (now (counter .entry)) ⌝ }
 {
-    match check_with(statement, dialect, joins, named, sheet) {
-        Checked::Accepted(settings) => {
-            *number = 0;
-            hand_back(statement, settings, sheet, place, counter, detail)
-        }
-        Checked::Refused(answer) => {
-            *number = answer_number(answer);
-            *detail = answer_detail(answer);
-            &statement[..0]
-        }
-    }
+    let part = lookup_part(
+        statement,
+        dialect,
+        joins,
+        named,
+        sheet,
+        place,
+        counter,
+        number,
+        detail,
+    );
+    part_of(statement, sheet, part)
+}
+
+// What is handed back lives as long as both the statement and the sheet do.
+pub fn lookup<'r, 's: 'r, 'v: 'r>(
+    statement: &'s [u8],
+    dialect: u64,
+    joins: u64,
+    named: u64,
+    sheet: &'v [u8],
+    place: usize,
+    counter: &mut u64,
+    number: &mut u64,
+    detail: &mut u64,
+) -> &'r [u8]
+    ensures { λ r. ⌜ now r ≡ lookupBytes (now (statement .entry)) dialect joins named (now (sheet .entry)) place (now (counter .entry)) ⌝ }
+    ensures { λ r. ⌜ r .ptr ≡ lookupStart (statement .entry) dialect joins named (sheet .entry) place (now (counter .entry)) ⌝ }
+    ensures { λ _. ⌜ now (counter .exit) ≡ lookupCounter (now (statement .entry)) dialect joins named (now (sheet .entry)) place (now (counter .entry)) ⌝ }
+    ensures { λ _. ⌜ now (number .exit) ≡ lookupNumber (now (statement .entry)) dialect joins named (now (sheet .entry)) ⌝ }
+    ensures { λ _. ⌜ now (detail .exit) ≡ lookupDetail (now (statement .entry)) dialect joins named (now (sheet .entry)) place (now (counter .entry)) ⌝ }
+{
+    lookup_together(
+        statement,
+        dialect,
+        joins,
+        named,
+        sheet,
+        place,
+        counter,
+        number,
+        detail,
+    )
 }

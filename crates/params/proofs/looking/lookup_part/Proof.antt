@@ -1,0 +1,46 @@
+use borrow.Author.Needs.{needs}
+use Rattle.params.proofs.Answering.{accepted-sheet}
+use Rattle.params.proofs.Lookups.{accepted-part, accepted-counter, accepted-number, accepted-detail, refused-part, refused-counter, refused-number, refused-detail}
+use Rattle.params.proofs.looking.lookup_part.Statement.{statement}
+use Rattle.params.proofs.looking.lookup_part.Tie as tie
+
+check-with-requires : tie.Need-check-with-requires
+check-with-requires c κs = search needs
+
+enum-known-settings : tie.Need-enum-known-settings
+enum-known-settings c = search needs
+
+find-requires : tie.Need-find-requires
+find-requires c κs = search accepted-sheet
+
+part-length-requires : tie.Need-part-length-requires
+part-length-requires c κs = search needs
+
+enum-known-answer : tie.Need-enum-known-answer
+enum-known-answer c = search needs
+
+answer-number-requires : tie.Need-answer-number-requires
+answer-number-requires c κs = search needs
+
+answer-detail-requires : tie.Need-answer-detail-requires
+answer-detail-requires c κs = search needs
+
+returns : tie.Need-returns
+returns c = (search accepted-part, (search needs, (search accepted-counter, (search accepted-number, search accepted-detail))))
+
+returns-2 : tie.Need-returns-2
+returns-2 c = (search refused-part, (search needs, (search refused-counter, (search refused-number, search refused-detail))))
+
+pub lookup-part-spec : {M : Type 1} → statement M
+lookup-part-spec =
+    tie.close
+    (tie.spec
+    check-with-requires
+    enum-known-settings
+    find-requires
+    part-length-requires
+    enum-known-answer
+    answer-number-requires
+    answer-detail-requires
+    returns
+    returns-2)
