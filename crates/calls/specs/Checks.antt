@@ -12,6 +12,7 @@ use Rattle.calls.specs.declared.Checked.the-variants.{Accepted, Refused}
 use Rattle.calls.specs.declared.Refusal.{Refusal}
 use Rattle.calls.specs.declared.Refusal.the-variants.{Overlong, NotUtf8, Setting}
 use Rattle.calls.specs.declared.Settings.{Settings}
+use Rattle.calls.specs.Refusals.{refusalNumber, refusalDetail}
 use Rattle.calls.specs.Settings.{isSetting, settingsOf}
 
 -- how many bytes a statement may have
@@ -32,3 +33,10 @@ checked dialect joins named s = cond (isSetting dialect joins named) (checkedTex
 abbrev pub acceptedOr : {A : Type 0} → (Settings → A) → (Refusal → A) → Checked → A
 acceptedOr done turned (Accepted settings) = done settings
 acceptedOr done turned (Refused refusal) = turned refusal
+
+-- the number that a call hands out, and the detail beside it, which is this where it is accepted
+abbrev pub toldNumber : Checked → ℕ
+toldNumber = acceptedOr (λ settings. 0) refusalNumber
+
+abbrev pub toldDetail : ℕ → Checked → ℕ
+toldDetail detail = acceptedOr (λ settings. detail) refusalDetail

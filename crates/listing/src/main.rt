@@ -1,11 +1,11 @@
 // Reads a statement from standard input, reads it with the default settings (Generic, joins 0, named placeholders 0), and
 // prints a line with the count of tokens and the seven fields of each record; or `refused` and the number.
+use calls::Checked;
+use calls::Settings;
 use libc::STDIN_FILENO;
 use libc::STDOUT_FILENO;
 use tokenizer::Answer;
-use calls::Checked;
 use tokenizer::KeyWords;
-use calls::Settings;
 use tokenizer::Step;
 use tokenizer::Token;
 ghost use mathlib.Core.Path.{_≡_};

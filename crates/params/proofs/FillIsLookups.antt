@@ -11,7 +11,7 @@ use Rattle.calls.specs.declared.Checked.the-variants.{Accepted}
 use Rattle.calls.specs.declared.Settings.{Settings}
 use Rattle.tokenizer.specs.declared.Token.{Token}
 use Rattle.tokenizer.specs.Tokens.{tokens}
-use Rattle.tight.specs.Answers.{textAnswer, textAfter}
+use Rattle.calls.specs.Texts.{textAnswer, textAfter, callAnswer, callOutput}
 use Rattle.params.specs.declared.Found.{Found}
 use Rattle.params.specs.Get.{ownText}
 use Rattle.params.specs.Filled.{isPlaceholder, standsFor, indexAfter, partBytes, filledFrom, filled}
@@ -51,13 +51,13 @@ module _ (s : List ℕ) (dialect joins named : ℕ) (sheet : List ℕ) (settings
 
   -- so fill tells and writes their bytes
   pub fill-tells-lookups : (room : ℕ) → fillAnswer s dialect joins named sheet room ≡ textAnswer (lookups s dialect joins named sheet (length (tokens settings s)) 0 0) room
-  unfolding fillAnswer
+  unfolding callAnswer
   fill-tells-lookups room =
       (let z : fillAnswer s dialect joins named sheet room ≡ textAnswer (filled settings s sheet) room = rw e in z)
       ∙ ap (λ (text : List ℕ). textAnswer text room) fill-is-lookups
 
   pub fill-writes-lookups : (output : List ℕ) → fillOutput s dialect joins named sheet output ≡ textAfter (lookups s dialect joins named sheet (length (tokens settings s)) 0 0) output
-  unfolding fillOutput
+  unfolding callOutput
   fill-writes-lookups output =
       (let z : fillOutput s dialect joins named sheet output ≡ textAfter (filled settings s sheet) output = rw e in z)
       ∙ ap (λ (text : List ℕ). textAfter text output) fill-is-lookups

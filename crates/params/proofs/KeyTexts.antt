@@ -19,7 +19,7 @@ use Rattle.recognisers.specs.Taking.{startsWith}
 use Rattle.recognisers.specs.Same.{same}
 use Rattle.tokenizer.specs.KeyText.{unescaped, keyText}
 use Rattle.params.specs.Keys.{hasName}
-use Rattle.params.specs.Inside.{keyEnd}
+use Rattle.params.specs.Inner.Inside.{keyEnd}
 
 -- the bytes from a place on, its own first
 pub at-first : (s : List ℕ) (i : ℕ) → i < length s → drop i s ≡ getD s i 0 ∷ drop (i + 1) s

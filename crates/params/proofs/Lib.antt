@@ -1,13 +1,13 @@
 -- Laws that the proofs cite, and theorems on the definitions.
-pub mod Contents
-pub mod Sheets
+pub mod SheetContents
+pub mod SheetEntries
 pub mod KeyTexts
-pub mod Standing
-pub mod Gets
-pub mod Reading
-pub mod Passing
-pub mod Handing
-pub mod Answering
+pub mod EntriesInside
+pub mod GetByCases
+pub mod TokensInside
+pub mod FillWalk
+pub mod PartBytes
+pub mod FillAnswers
 pub mod Lookups
 pub mod FillIsLookups
 pub mod UntakenValues

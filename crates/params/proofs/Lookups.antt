@@ -7,7 +7,7 @@ use mathlib.Core.Bool.{true}
 use mathlib.Core.List.{List, _∷_}
 use lib.ListN.{length, drop}
 use lib.Seq.{drop-nil}
-use Rattle.tokenizer.specs.declared.Answer.{Answer}
+use Rattle.calls.specs.declared.Refusal.{Refusal}
 use Rattle.calls.specs.declared.Checked.{Checked}
 use Rattle.calls.specs.declared.Checked.the-variants.{Accepted, Refused}
 use Rattle.tokenizer.specs.declared.Cursor.{Cursor}
@@ -15,7 +15,7 @@ use Rattle.calls.specs.declared.Settings.{Settings}
 use Rattle.tokenizer.specs.declared.Step.{Step}
 use Rattle.tokenizer.specs.declared.Step.the-variants as S
 use Rattle.tokenizer.specs.declared.Token.{Token}
-use Rattle.tokenizer.specs.Answers.{answerNumber, answerDetail}
+use Rattle.calls.specs.Refusals.{refusalNumber, refusalDetail}
 use Rattle.tokenizer.specs.Memory.{start}
 use Rattle.tokenizer.specs.Tokens.{stepAt, tokens}
 use Rattle.tokenizer.proofs.Steps.{left, step-moves, step-less, step-ends}
@@ -24,11 +24,11 @@ use Rattle.params.specs.declared.Params.{Params}
 use Rattle.params.specs.declared.Part.{Part}
 use Rattle.params.specs.declared.Part.the-variants as P
 use Rattle.params.specs.Sheet.{isSheet}
-use Rattle.params.specs.Inside.{keyEnd, PartInside}
-use Rattle.params.specs.Carried.{paramsAt}
+use Rattle.params.specs.Inner.Inside.{keyEnd, PartInside}
+use Rattle.params.specs.Inner.Carried.{paramsAt}
 use Rattle.params.specs.Filled.{standsFor, indexAfter, partBytes, partLength, partStart}
 use Rattle.params.specs.Answers.{checkedWith, nothingFound, foundFor, foundFirst, foundAt, lookupFound, lookupPart, lookupCounter, lookupNumber, lookupDetail}
-use Rattle.params.proofs.Reading.{step-inside, step-key, stands-inside}
+use Rattle.params.proofs.TokensInside.{step-inside, step-key, stands-inside}
 
 -- ---- one token
 
@@ -120,8 +120,8 @@ module _ (s : List ℕ) (dialect joins named : ℕ) (sheet : List ℕ) (r : Chec
           ∙ ap partLength accepted-part
           ∙ (let z : partLength (lookupPart s dialect joins named sheet place counter) ≡ lookupDetail s dialect joins named sheet place counter = rw (← e, k) in z)
 
-  module _ (answer : Answer) (k : r ≡ Refused answer) where
-    pub refused-number : (n : ℕ) → n ≡ answerNumber answer → n ≡ lookupNumber s dialect joins named sheet
+  module _ (refusal : Refusal) (k : r ≡ Refused refusal) where
+    pub refused-number : (n : ℕ) → n ≡ refusalNumber refusal → n ≡ lookupNumber s dialect joins named sheet
     unfolding lookupNumber
     refused-number n f = f ∙ rw (← e, k)
 
@@ -138,7 +138,7 @@ module _ (s : List ℕ) (dialect joins named : ℕ) (sheet : List ℕ) (r : Chec
       unfolding nothingFound
       refused-counter = ap (λ (q : Found). q .counter) nothing-is
 
-      pub refused-detail : (n : ℕ) → n ≡ answerDetail answer → n ≡ lookupDetail s dialect joins named sheet place counter
+      pub refused-detail : (n : ℕ) → n ≡ refusalDetail refusal → n ≡ lookupDetail s dialect joins named sheet place counter
       unfolding lookupDetail
       refused-detail n f = f ∙ rw (← e, k)
 

@@ -15,10 +15,10 @@ use Rattle.calls.specs.declared.Checked.{Checked}
 use Rattle.calls.specs.declared.Checked.the-variants.{Accepted, Refused}
 use Rattle.calls.specs.declared.Settings.{Settings}
 use Rattle.tokenizer.specs.declared.Token.{Token}
-use Rattle.tokenizer.specs.Answers.{checked}
+use Rattle.calls.specs.Checks.{checked}
 use Rattle.tokenizer.specs.KeyText.{keyText}
 use Rattle.tokenizer.specs.Tokens.{tokens}
-use Rattle.tight.specs.Answers.{textAnswer, textAfter}
+use Rattle.calls.specs.Texts.{textAnswer, textAfter, callAnswer, callOutput}
 use Rattle.params.specs.declared.QueryParams.{QueryParams}
 use Rattle.params.specs.declared.QueryParams.the-variants as Q
 use Rattle.params.specs.Sheet.{kindOf, paramsOf, countOf, placeOf, nameOf, valueAt, valueOf, isSheet}
@@ -104,17 +104,17 @@ module _ (s a b : List ℕ) (kind : kindOf a ≡ kindOf b) (count : countOf a �
   module _ (good-a : isSheet a ≡ true) (good-b : isSheet b ≡ true) (dialect joins named : ℕ)
       (agree : (settings : Settings) → checked dialect joins named s ≡ Accepted settings → TakenAgree s a b 0 (tokens settings s)) where
     pub untaken-answer : (room : ℕ) → fillAnswer s dialect joins named a room ≡ fillAnswer s dialect joins named b room
-    unfolding fillAnswer checkedWith filled
+    unfolding callAnswer checkedWith filled
     untaken-answer room = go (checked dialect joins named s) refl
       where
         go : (c : Checked) → checked dialect joins named s ≡ c → fillAnswer s dialect joins named a room ≡ fillAnswer s dialect joins named b room
         go (Accepted settings) e = rw (e, good-a, good-b) (ap (λ (text : List ℕ). textAnswer text room) (same-filled (tokens settings s) 0 (agree settings e)))
-        go (Refused answer) e = rw e
+        go (Refused refusal) e = rw e
 
     pub untaken-output : (output : List ℕ) → fillOutput s dialect joins named a output ≡ fillOutput s dialect joins named b output
-    unfolding fillOutput checkedWith filled
+    unfolding callOutput checkedWith filled
     untaken-output output = go (checked dialect joins named s) refl
       where
         go : (c : Checked) → checked dialect joins named s ≡ c → fillOutput s dialect joins named a output ≡ fillOutput s dialect joins named b output
         go (Accepted settings) e = rw (e, good-a, good-b) (ap (λ (text : List ℕ). textAfter text output) (same-filled (tokens settings s) 0 (agree settings e)))
-        go (Refused answer) e = rw e
+        go (Refused refusal) e = rw e

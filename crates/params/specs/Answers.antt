@@ -4,15 +4,15 @@ use mathlib.Core.Bool.{cond}
 use mathlib.Core.List.{List, [], _∷_}
 use lib.ListN.{drop}
 use denote.Ref.{RefT, now}
-use Rattle.tokenizer.specs.declared.Answer.{Answer}
-use Rattle.tokenizer.specs.declared.Answer.the-variants as A
+use Rattle.calls.specs.declared.Refusal.the-variants as R
 use Rattle.calls.specs.declared.Checked.{Checked}
 use Rattle.calls.specs.declared.Checked.the-variants.{Accepted, Refused}
 use Rattle.calls.specs.declared.Settings.{Settings}
+use Rattle.calls.specs.declared.TextAnswer.{TextAnswer}
+use Rattle.calls.specs.Checks.{checked, acceptedOr, toldNumber, toldDetail}
+use Rattle.calls.specs.Texts.{callAnswer, callOutput}
 use Rattle.tokenizer.specs.declared.Token.{Token}
-use Rattle.tokenizer.specs.Answers.{answerNumber, answerDetail, checked}
 use Rattle.tokenizer.specs.Tokens.{tokens}
-use Rattle.tight.specs.Answers.{textAnswer, textAfter}
 use Rattle.params.specs.declared.Found.{Found}
 use Rattle.params.specs.declared.Part.{Part}
 use Rattle.params.specs.declared.Part.the-variants as P
@@ -21,29 +21,21 @@ use Rattle.params.specs.Filled.{standsFor, indexAfter, partBytes, partLe
 
 -- a malformed sheet is refused once the statement and the settings are accepted
 abbrev pub withSheet : List ℕ → Checked → Checked
-withSheet sheet (Accepted settings) = cond (isSheet sheet) (Accepted settings) (Refused A.Sheet)
-withSheet sheet (Refused answer) = Refused answer
+withSheet sheet (Accepted settings) = cond (isSheet sheet) (Accepted settings) (Refused R.Sheet)
+withSheet sheet (Refused refusal) = Refused refusal
 
 unfoldable pub checkedWith : List ℕ → ℕ → ℕ → ℕ → List ℕ → Checked
 checkedWith s dialect joins named sheet = withSheet sheet (checked dialect joins named s)
 
 -- ---- fill
 
-abbrev pub answerOf : List ℕ → List ℕ → ℕ → Checked → Answer
-answerOf s sheet room (Accepted settings) = textAnswer (filled settings s sheet) room
-answerOf s sheet room (Refused answer) = answer
-
-abbrev pub outputAfter : List ℕ → List ℕ → List ℕ → Checked → List ℕ
-outputAfter s sheet output (Accepted settings) = textAfter (filled settings s sheet) output
-outputAfter s sheet output (Refused answer) = output
-
 -- the answer, for a statement, the settings as numbers, a sheet and an output of so many bytes
-unfoldable pub fillAnswer : List ℕ → ℕ → ℕ → ℕ → List ℕ → ℕ → Answer
-fillAnswer s dialect joins named sheet room = answerOf s sheet room (checkedWith s dialect joins named sheet)
+abbrev pub fillAnswer : List ℕ → ℕ → ℕ → ℕ → List ℕ → ℕ → TextAnswer
+fillAnswer s dialect joins named sheet room = callAnswer (λ settings. filled settings s sheet) room (checkedWith s dialect joins named sheet)
 
 -- the whole output afterwards
-unfoldable pub fillOutput : List ℕ → ℕ → ℕ → ℕ → List ℕ → List ℕ → List ℕ
-fillOutput s dialect joins named sheet output = outputAfter s sheet output (checkedWith s dialect joins named sheet)
+abbrev pub fillOutput : List ℕ → ℕ → ℕ → ℕ → List ℕ → List ℕ → List ℕ
+fillOutput s dialect joins named sheet output = callOutput (λ settings. filled settings s sheet) output (checkedWith s dialect joins named sheet)
 
 -- ---- lookup
 
@@ -64,13 +56,10 @@ foundFirst s sheet counter (t ∷ ts) = foundFor s sheet counter t
 unfoldable pub foundAt : Settings → List ℕ → List ℕ → ℕ → ℕ → Found
 foundAt settings s sheet place counter = foundFirst s sheet counter (drop place (tokens settings s))
 
-abbrev pub foundOf : List ℕ → List ℕ → ℕ → ℕ → Checked → Found
-foundOf s sheet place counter (Accepted settings) = foundAt settings s sheet place counter
-foundOf s sheet place counter (Refused answer) = nothingFound counter
-
 -- the part handed back, of the statement or of the sheet, and the counter afterwards
 unfoldable pub lookupFound : List ℕ → ℕ → ℕ → ℕ → List ℕ → ℕ → ℕ → Found
-lookupFound s dialect joins named sheet place counter = foundOf s sheet place counter (checkedWith s dialect joins named sheet)
+lookupFound s dialect joins named sheet place counter =
+    acceptedOr (λ settings. foundAt settings s sheet place counter) (λ refusal. nothingFound counter) (checkedWith s dialect joins named sheet)
 
 abbrev pub lookupPart : List ℕ → ℕ → ℕ → ℕ → List ℕ → ℕ → ℕ → Part
 lookupPart s dialect joins named sheet place counter = lookupFound s dialect joins named sheet place counter .part
@@ -87,18 +76,10 @@ abbrev pub lookupStart : RefT (List ℕ) → ℕ → ℕ → ℕ → RefT (List 
 lookupStart s dialect joins named sheet place counter =
     partStart (s .ptr) (sheet .ptr) (lookupPart (now s) dialect joins named (now sheet) place counter)
 
-abbrev pub numberOf : Checked → ℕ
-numberOf (Accepted settings) = 0
-numberOf (Refused answer) = answerNumber answer
-
-abbrev pub detailOf : Found → Checked → ℕ
-detailOf found (Accepted settings) = partLength (found .part)
-detailOf found (Refused answer) = answerDetail answer
-
 -- the number, and the detail beside it
 unfoldable pub lookupNumber : List ℕ → ℕ → ℕ → ℕ → List ℕ → ℕ
-lookupNumber s dialect joins named sheet = numberOf (checkedWith s dialect joins named sheet)
+lookupNumber s dialect joins named sheet = toldNumber (checkedWith s dialect joins named sheet)
 
 unfoldable pub lookupDetail : List ℕ → ℕ → ℕ → ℕ → List ℕ → ℕ → ℕ → ℕ
 lookupDetail s dialect joins named sheet place counter =
-    detailOf (lookupFound s dialect joins named sheet place counter) (checkedWith s dialect joins named sheet)
+    toldDetail (partLength (lookupPart s dialect joins named sheet place counter)) (checkedWith s dialect joins named sheet)

@@ -4,7 +4,4 @@ pub mod Keys
 pub mod Get
 pub mod Filled
 pub mod Answers
--- for inner contracts alone
-pub mod Carried
-pub mod Cases
-pub mod Inside
+pub mod Inner

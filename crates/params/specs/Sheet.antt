@@ -5,14 +5,11 @@ use mathlib.Core.List.{List}
 use lib.Dec.{leb, eqb}
 use lib.ListN.{length, take, drop, getD}
 use Rattle.unicode.specs.Utf8.{wellFormed}
+use Rattle.calls.specs.LittleEndian.{numberAt}
 use Rattle.params.specs.declared.Lengths.{Lengths}
 use Rattle.params.specs.declared.Place.{Place}
 use Rattle.params.specs.declared.QueryParams.{QueryParams}
 use Rattle.params.specs.declared.QueryParams.the-variants.{None, Named, Indexed}
-
--- a number of two bytes, the lowest first
-unfoldable pub le16 : List ℕ → ℕ → ℕ
-le16 sheet at = getD sheet at 0 + 256 * getD sheet (at + 1) 0
 
 unfoldable pub kindOf : List ℕ → ℕ
 kindOf sheet = getD sheet 0 0
@@ -22,7 +19,7 @@ unfoldable pub paramsOf : List ℕ → QueryParams
 paramsOf sheet = cond (eqb (kindOf sheet) 1) Named (cond (eqb (kindOf sheet) 2) Indexed None)
 
 unfoldable pub countOf : List ℕ → ℕ
-countOf sheet = le16 sheet 1
+countOf sheet = numberAt 2 sheet 1
 
 unfoldable pub isNamed : List ℕ → Bool
 isNamed sheet = eqb (kindOf sheet) 1
@@ -34,8 +31,8 @@ width sheet = cond (isNamed sheet) 4 2
 -- the lengths of the entry at a place; only a named sheet tells a name's
 unfoldable pub lengthsAt : List ℕ → Place → Lengths
 lengthsAt sheet p =
-    cond (isNamed sheet) (record { name = le16 sheet (p .lengths); value = le16 sheet (p .lengths + 2) })
-    (record { name = 0; value = le16 sheet (p .lengths) })
+    cond (isNamed sheet) (record { name = numberAt 2 sheet (p .lengths); value = numberAt 2 sheet (p .lengths + 2) })
+    (record { name = 0; value = numberAt 2 sheet (p .lengths) })
 
 -- the place of the entry behind
 unfoldable pub past : List ℕ → Place → Place

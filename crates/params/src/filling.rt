@@ -2,15 +2,16 @@
 use crate::sheet::is_sheet;
 use crate::text::filled_length;
 use crate::text::write_filled;
-use tokenizer::Answer;
 use calls::Checked;
+use calls::Refusal;
 use calls::Settings;
+use calls::TextAnswer;
 use calls::check;
 ghost use mathlib.Core.Path.{_≡_};
 ghost use mathlib.Core.Bool.{true};
 ghost use Prim.Native.Nat.{_≤_};
 ghost use lib.ListN.{length};
-ghost use Rattle.tight.specs.Answers.{textAnswer, textAfter};
+ghost use Rattle.calls.specs.Texts.{textAnswer, textAfter};
 ghost use Rattle.params.specs.Sheet.{isSheet};
 ghost use Rattle.params.specs.Filled.{filled};
 ghost use Rattle.params.specs.Answers.{checkedWith, fillAnswer, fillOutput};
@@ -24,13 +25,19 @@ pub fn check_with(statement: &[u8], dialect: u64, joins: u64, named: u64, sheet:
             if is_sheet(sheet) {
                 return Checked::Accepted(settings);
             }
-            Checked::Refused(Answer::Sheet)
+            Checked::Refused(Refusal::Sheet)
         }
-        Checked::Refused(answer) => Checked::Refused(answer),
+        Checked::Refused(refusal) => Checked::Refused(refusal),
     }
 }
 
-fn fill_output(statement: &[u8], settings: Settings, sheet: &[u8], output: &mut [u8]) -> Answer
+// Where the output is full, nothing may be written.
+fn measure_then_write(
+    statement: &[u8],
+    settings: Settings,
+    sheet: &[u8],
+    output: &mut [u8],
+) -> TextAnswer
     requires { ⌜ length (now statement) ≤ 65536 ⌝ }
     requires { ⌜ isSheet (now sheet) ≡ true ⌝ }
     ensures { λ r. ⌜ r ≡ textAnswer (filled settings (now (statement .entry)) (now (sheet .entry))) (length (now (output .entry))) ⌝ }
@@ -38,10 +45,10 @@ fn fill_output(statement: &[u8], settings: Settings, sheet: &[u8], output: &mut 
 {
     let needed = filled_length(statement, settings, sheet);
     if output.len() < needed {
-        return Answer::OutputFull(needed as u64);
+        return TextAnswer::Refused(Refusal::OutputFull(needed as u64));
     }
     write_filled(statement, settings, sheet, output);
-    Answer::Done(needed as u64)
+    TextAnswer::Written(needed as u64)
 }
 
 pub fn fill(
@@ -51,12 +58,12 @@ pub fn fill(
     named: u64,
     sheet: &[u8],
     output: &mut [u8],
-) -> Answer
+) -> TextAnswer
     ensures { λ r. ⌜ r ≡ fillAnswer (now (statement .entry)) dialect joins named (now (sheet .entry)) (length (now (output .entry))) ⌝ }
     ensures { λ _. ⌜ now (output .exit) ≡ fillOutput (now (statement .entry)) dialect joins named (now (sheet .entry)) (now (output .entry)) ⌝ }
 {
     match check_with(statement, dialect, joins, named, sheet) {
-        Checked::Accepted(settings) => fill_output(statement, settings, sheet, output),
-        Checked::Refused(answer) => answer,
+        Checked::Accepted(settings) => measure_then_write(statement, settings, sheet, output),
+        Checked::Refused(refusal) => TextAnswer::Refused(refusal),
     }
 }

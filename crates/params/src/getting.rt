@@ -21,10 +21,10 @@ ghost use Prim.Native.Nat.{_≤_};
 ghost use lib.ListN.{length};
 ghost use Rattle.params.specs.Sheet.{isSheet};
 ghost use Rattle.params.specs.Keys.{hasNoIndex};
-ghost use Rattle.params.specs.Inside.{keyEnd};
+ghost use Rattle.params.specs.Inner.Inside.{keyEnd};
 ghost use Rattle.params.specs.Get.{byIndex, get, indexPast};
-ghost use Rattle.params.specs.Carried.{paramsAt};
-ghost use Rattle.params.specs.Cases.{namedPart, indexedPart, indexedPast};
+ghost use Rattle.params.specs.Inner.Carried.{paramsAt};
+ghost use Rattle.params.specs.Inner.Cases.{namedPart, indexedPart, indexedPast};
 ghost use Rattle.params.specs.Filled.{standsFor, indexAfter};
 
 fn get_named(statement: &[u8], sheet: &[u8], token: Token) -> Part

@@ -11,7 +11,7 @@ ghost use Rattle.recognisers.specs.Taking.{startsWith};
 ghost use Rattle.recognisers.specs.Same.{same};
 ghost use Rattle.tokenizer.specs.KeyText.{unescaped, keyText};
 ghost use Rattle.params.specs.Keys.{hasKey, hasName};
-ghost use Rattle.params.specs.Inside.{keyEnd};
+ghost use Rattle.params.specs.Inner.Inside.{keyEnd};
 
 // A backslash directly before the quote.
 fn is_escape(text: &[u8], i: usize, quote: u8) -> bool

@@ -7,13 +7,12 @@ use crate::getting::stands_for;
 use crate::parts::part_length;
 use crate::parts::part_of;
 use crate::places::params_at;
-use tokenizer::Answer;
 use calls::Checked;
 use calls::Settings;
+use calls::refusal_detail;
+use calls::refusal_number;
 use tokenizer::Step;
 use tokenizer::Token;
-use tokenizer::answer_detail;
-use tokenizer::answer_number;
 use tokenizer::at_start;
 use tokenizer::next_step;
 ghost use mathlib.Core.Path.{_≡_};
@@ -21,7 +20,7 @@ ghost use mathlib.Core.Bool.{true};
 ghost use Prim.Native.Nat.{_≤_};
 ghost use lib.ListN.{length};
 ghost use Rattle.params.specs.Sheet.{isSheet};
-ghost use Rattle.params.specs.Inside.{keyEnd, PartInside};
+ghost use Rattle.params.specs.Inner.Inside.{keyEnd, PartInside};
 ghost use Rattle.params.specs.Answers.{nothingFound, foundFor, foundAt, lookupPart, lookupBytes, lookupStart, lookupCounter, lookupNumber, lookupDetail};
 
 // The empty start of the statement.
@@ -99,9 +98,9 @@ pub fn lookup_part(
             *detail = part_length(part) as u64;
             part
         }
-        Checked::Refused(answer) => {
-            *number = answer_number(answer);
-            *detail = answer_detail(answer);
+        Checked::Refused(refusal) => {
+            *number = refusal_number(refusal);
+            *detail = refusal_detail(refusal);
             Part::Statement { start: 0, len: 0 }
         }
     }

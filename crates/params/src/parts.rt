@@ -1,12 +1,12 @@
 // A part of the statement or of the sheet: its length, its bytes, and the bytes put into an output.
 use crate::Part;
-use tight::put_bytes;
+use calls::put_bytes;
 ghost use mathlib.Core.Path.{_≡_};
 ghost use Prim.Native.Nat.{_+_, _≤_};
 ghost use lib.ListN.{length};
 ghost use lib.Seq.{sets};
 ghost use Rattle.params.specs.Filled.{partBytes, partLength, partStart};
-ghost use Rattle.params.specs.Inside.{PartInside};
+ghost use Rattle.params.specs.Inner.Inside.{PartInside};
 
 pub fn part_length(part: Part) -> usize
     ensures { λ r. ⌜ r ≡ partLength part ⌝ }

@@ -16,9 +16,9 @@ ghost use lib.ListN.{length};
 ghost use Rattle.recognisers.specs.Same.{same};
 ghost use Rattle.tokenizer.specs.KeyText.{keyText};
 ghost use Rattle.params.specs.Sheet.{countOf, width, lengthsAt, placeOf, nameAt, isSheet};
-ghost use Rattle.params.specs.Inside.{keyEnd};
+ghost use Rattle.params.specs.Inner.Inside.{keyEnd};
 ghost use Rattle.params.specs.Get.{withName, ownText, valueOr, countedOn};
-ghost use Rattle.params.specs.Carried.{paramsAt};
+ghost use Rattle.params.specs.Inner.Carried.{paramsAt};
 
 // The place of an entry by its number: one look at each entry before it.
 fn place_of(sheet: &[u8], n: usize) -> Place

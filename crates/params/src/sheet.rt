@@ -2,6 +2,7 @@
 use crate::Lengths;
 use crate::Place;
 use crate::QueryParams;
+use calls::le16_at;
 use unicode::IllFormed;
 use unicode::first_ill_formed;
 ghost use mathlib.Core.Path.{_≡_};
@@ -10,22 +11,7 @@ ghost use Prim.Native.Nat.{_+_, _≤_, _<_};
 ghost use lib.Dec.{leb};
 ghost use lib.ListN.{length};
 ghost use Rattle.unicode.specs.Utf8.{wellFormed};
-ghost use Rattle.params.specs.Sheet.{le16, paramsOf, countOf, isNamed, width, lengthsAt, past, placeOf, nameAt, valueAt, bodiesAreUtf8, fillsExactly, isKindAndCount, isSheet};
-
-fn wide(b: u8) -> usize
-    ensures { λ r. ⌜ r ≡ b ⌝ }
-    ensures { λ r. ⌜ r < 256 ⌝ }
-{
-    b as usize
-}
-
-fn le16_at(sheet: &[u8], at: usize) -> usize
-    requires { ⌜ at + 1 < length (now sheet) ⌝ }
-    ensures { λ r. ⌜ r ≡ le16 (now (sheet .entry)) at ⌝ }
-    ensures { λ r. ⌜ r < 65536 ⌝ }
-{
-    wide(sheet[at]) + 256 * wide(sheet[at + 1])
-}
+ghost use Rattle.params.specs.Sheet.{paramsOf, countOf, isNamed, width, lengthsAt, past, placeOf, nameAt, valueAt, bodiesAreUtf8, fillsExactly, isKindAndCount, isSheet};
 
 pub fn params_of(sheet: &[u8]) -> QueryParams
     requires { ⌜ 0 < length (now sheet) ⌝ }

@@ -18,8 +18,8 @@ ghost use Prim.Native.Nat.{_+_, _≤_};
 ghost use lib.ListN.{length, drop};
 ghost use lib.Seq.{sets};
 ghost use Rattle.params.specs.Sheet.{isSheet};
-ghost use Rattle.params.specs.Inside.{keyEnd};
-ghost use Rattle.params.specs.Carried.{paramsAt};
+ghost use Rattle.params.specs.Inner.Inside.{keyEnd};
+ghost use Rattle.params.specs.Inner.Carried.{paramsAt};
 ghost use Rattle.params.specs.Filled.{standsFor, partBytes, partLength, filled};
 
 // The length of what stands for a token.

@@ -35,7 +35,13 @@ fn write_output(statement: &[u8], settings: Settings, output: &mut [u8]) -> Text
     TextAnswer::Written(write_tight(statement, settings, output) as u64)
 }
 
-pub fn tighten(statement: &[u8], dialect: u64, joins: u64, named: u64, output: &mut [u8]) -> TextAnswer
+pub fn tighten(
+    statement: &[u8],
+    dialect: u64,
+    joins: u64,
+    named: u64,
+    output: &mut [u8],
+) -> TextAnswer
     ensures { λ r. ⌜ r ≡ tightenAnswer (now (statement .entry)) dialect joins named (length (now (output .entry))) ⌝ }
     ensures { λ _. ⌜ now (output .exit) ≡ tightenOutput (now (statement .entry)) dialect joins named (now (output .entry)) ⌝ }
 {

@@ -1,7 +1,7 @@
 use borrow.Author.Needs.{needs}
 use mathlib.Core.Path.{sym}
 use lib.Seq.{length-take-le}
-use Rattle.params.proofs.Answering.{written-inside}
+use Rattle.params.proofs.FillAnswers.{written-inside}
 use Rattle.filling.proofs.print_filled.Statement.{statement}
 use Rattle.filling.proofs.print_filled.Tie as tie
 

@@ -1,5 +1,5 @@
 use borrow.Author.Needs.{needs}
-use Rattle.params.proofs.Answering.{sheet-accepted, sheet-refused, before-sheet}
+use Rattle.params.proofs.FillAnswers.{sheet-accepted, sheet-refused, before-sheet}
 use Rattle.params.proofs.filling.check_with.Statement.{statement}
 use Rattle.params.proofs.filling.check_with.Tie as tie
 
@@ -15,8 +15,8 @@ is-sheet-requires c κs = search needs
 returns : tie.Need-returns
 returns c = search sheet-accepted
 
-enum-known-answer : tie.Need-enum-known-answer
-enum-known-answer c = search needs
+enum-known-refusal : tie.Need-enum-known-refusal
+enum-known-refusal c = search needs
 
 returns-2 : tie.Need-returns-2
 returns-2 c = search sheet-refused
@@ -32,6 +32,6 @@ check-with-spec =
     enum-known-settings
     is-sheet-requires
     returns
-    enum-known-answer
+    enum-known-refusal
     returns-2
     returns-3)

@@ -1,5 +1,6 @@
 use borrow.Author.Needs.{needs}
-use Rattle.params.proofs.Answering.{accepted-short, accepted-sheet, refused-answer, refused-output, accepted-answer, accepted-output}
+use Rattle.calls.proofs.TextCalls.{refused-answer, refused-output, accepted-answer, accepted-output}
+use Rattle.params.proofs.FillAnswers.{statement-short, accepted-sheet}
 use Rattle.params.proofs.filling.fill.Statement.{statement}
 use Rattle.params.proofs.filling.fill.Tie as tie
 
@@ -9,11 +10,11 @@ check-with-requires c κs = search needs
 enum-known-settings : tie.Need-enum-known-settings
 enum-known-settings c = search needs
 
-fill-output-requires : tie.Need-fill-output-requires
-fill-output-requires c κs = search (accepted-short, accepted-sheet)
+measure-then-write-requires : tie.Need-measure-then-write-requires
+measure-then-write-requires c κs = search (statement-short, accepted-sheet)
 
-enum-known-answer : tie.Need-enum-known-answer
-enum-known-answer c = search needs
+enum-known-refusal : tie.Need-enum-known-refusal
+enum-known-refusal c = search needs
 
 same-length : tie.Need-same-length
 same-length c = search needs
@@ -30,8 +31,8 @@ fill-spec =
     (tie.spec
     check-with-requires
     enum-known-settings
-    fill-output-requires
-    enum-known-answer
+    measure-then-write-requires
+    enum-known-refusal
     same-length
     returns
     returns-2)

@@ -1,6 +1,6 @@
 use borrow.Author.Needs.{needs}
-use Rattle.params.proofs.Standing.{sheet-some}
-use Rattle.params.proofs.Gets.{get-none, get-named, get-indexed}
+use Rattle.params.proofs.EntriesInside.{sheet-some}
+use Rattle.params.proofs.GetByCases.{get-none, get-named, get-indexed}
 use Rattle.params.proofs.getting.get.Statement.{statement}
 use Rattle.params.proofs.getting.get.Tie as tie
 

@@ -1,6 +1,6 @@
 use borrow.Author.Needs.{needs}
-use Rattle.params.proofs.Standing.{turn-stands}
-use Rattle.params.proofs.Gets.{name-kept, turn-taken, numbered}
+use Rattle.params.proofs.EntriesInside.{turn-stands}
+use Rattle.params.proofs.GetByCases.{name-kept, turn-taken, numbered}
 use Rattle.params.proofs.getting.get_indexed.Statement.{statement}
 use Rattle.params.proofs.getting.get_indexed.Tie as tie
 

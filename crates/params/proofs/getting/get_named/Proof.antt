@@ -1,6 +1,6 @@
 use borrow.Author.Needs.{needs}
-use Rattle.params.proofs.Standing.{stands}
-use Rattle.params.proofs.Gets.{keyed, keyless}
+use Rattle.params.proofs.EntriesInside.{stands}
+use Rattle.params.proofs.GetByCases.{keyed, keyless}
 use Rattle.params.proofs.getting.get_named.Statement.{statement}
 use Rattle.params.proofs.getting.get_named.Tie as tie
 

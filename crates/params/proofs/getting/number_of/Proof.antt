@@ -1,6 +1,6 @@
 use borrow.Author.Needs.{needs}
-use Rattle.params.proofs.Standing.{sheet-long}
-use Rattle.params.proofs.Gets.{one-zero, one-some}
+use Rattle.params.proofs.EntriesInside.{sheet-long}
+use Rattle.params.proofs.GetByCases.{one-zero, one-some}
 use Rattle.params.proofs.getting.number_of.Statement.{statement}
 use Rattle.params.proofs.getting.number_of.Tie as tie
 

@@ -1,6 +1,6 @@
 use borrow.Author.Needs.{needs}
 use Rattle.params.specs.Filled.{isPlaceholder}
-use Rattle.params.proofs.Gets.{placeholder-past, other-past}
+use Rattle.params.proofs.GetByCases.{placeholder-past, other-past}
 use Rattle.params.proofs.getting.params_past.Statement.{statement}
 use Rattle.params.proofs.getting.params_past.Tie as tie
 

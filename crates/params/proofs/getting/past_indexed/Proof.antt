@@ -1,5 +1,5 @@
 use borrow.Author.Needs.{needs}
-use Rattle.params.proofs.Gets.{name-past, turn-past, index-past}
+use Rattle.params.proofs.GetByCases.{name-past, turn-past, index-past}
 use Rattle.params.proofs.getting.past_indexed.Statement.{statement}
 use Rattle.params.proofs.getting.past_indexed.Tie as tie
 

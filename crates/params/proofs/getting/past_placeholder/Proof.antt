@@ -1,6 +1,6 @@
 use borrow.Author.Needs.{needs}
-use Rattle.params.proofs.Standing.{sheet-some}
-use Rattle.params.proofs.Gets.{none-past, named-past, indexed-past}
+use Rattle.params.proofs.EntriesInside.{sheet-some}
+use Rattle.params.proofs.GetByCases.{none-past, named-past, indexed-past}
 use Rattle.params.proofs.getting.past_placeholder.Statement.{statement}
 use Rattle.params.proofs.getting.past_placeholder.Tie as tie
 

@@ -1,6 +1,6 @@
 use borrow.Author.Needs.{needs}
 use Rattle.params.specs.Filled.{isPlaceholder}
-use Rattle.params.proofs.Gets.{placeholder-stands, other-stands}
+use Rattle.params.proofs.GetByCases.{placeholder-stands, other-stands}
 use Rattle.params.proofs.getting.stands_for.Statement.{statement}
 use Rattle.params.proofs.getting.stands_for.Tie as tie
 

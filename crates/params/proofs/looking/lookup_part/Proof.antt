@@ -1,5 +1,5 @@
 use borrow.Author.Needs.{needs}
-use Rattle.params.proofs.Answering.{accepted-sheet}
+use Rattle.params.proofs.FillAnswers.{accepted-sheet}
 use Rattle.params.proofs.Lookups.{accepted-part, accepted-counter, accepted-number, accepted-detail, refused-part, refused-counter, refused-number, refused-detail}
 use Rattle.params.proofs.looking.lookup_part.Statement.{statement}
 use Rattle.params.proofs.looking.lookup_part.Tie as tie
@@ -16,14 +16,14 @@ find-requires c κs = search accepted-sheet
 part-length-requires : tie.Need-part-length-requires
 part-length-requires c κs = search needs
 
-enum-known-answer : tie.Need-enum-known-answer
-enum-known-answer c = search needs
+enum-known-refusal : tie.Need-enum-known-refusal
+enum-known-refusal c = search needs
 
-answer-number-requires : tie.Need-answer-number-requires
-answer-number-requires c κs = search needs
+refusal-number-requires : tie.Need-refusal-number-requires
+refusal-number-requires c κs = search needs
 
-answer-detail-requires : tie.Need-answer-detail-requires
-answer-detail-requires c κs = search needs
+refusal-detail-requires : tie.Need-refusal-detail-requires
+refusal-detail-requires c κs = search needs
 
 returns : tie.Need-returns
 returns c = (search accepted-part, (search needs, (search accepted-counter, (search accepted-number, search accepted-detail))))
@@ -39,8 +39,8 @@ lookup-part-spec =
     enum-known-settings
     find-requires
     part-length-requires
-    enum-known-answer
-    answer-number-requires
-    answer-detail-requires
+    enum-known-refusal
+    refusal-number-requires
+    refusal-detail-requires
     returns
     returns-2)

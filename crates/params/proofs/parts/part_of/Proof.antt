@@ -1,5 +1,5 @@
 use borrow.Author.Needs.{needs}
-use Rattle.params.proofs.Handing.{statement-fits, statement-end, statement-bytes, statement-start, sheet-fits, sheet-end, sheet-bytes, sheet-start}
+use Rattle.params.proofs.PartBytes.{statement-fits, statement-end, statement-bytes, statement-start, sheet-fits, sheet-end, sheet-bytes, sheet-start}
 use Rattle.params.proofs.parts.part_of.Statement.{statement}
 use Rattle.params.proofs.parts.part_of.Tie as tie
 

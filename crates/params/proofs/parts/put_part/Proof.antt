@@ -1,5 +1,5 @@
 use borrow.Author.Needs.{needs}
-use Rattle.params.proofs.Handing.{statement-fits, statement-end, statement-room, statement-put, sheet-fits, sheet-end, sheet-room, sheet-put}
+use Rattle.params.proofs.PartBytes.{statement-fits, statement-end, statement-room, statement-put, sheet-fits, sheet-end, sheet-room, sheet-put}
 use Rattle.params.proofs.parts.put_part.Statement.{statement}
 use Rattle.params.proofs.parts.put_part.Tie as tie
 

@@ -1,5 +1,5 @@
 use borrow.Author.Needs.{needs}
-use Rattle.params.proofs.Standing.{name-end, name-told}
+use Rattle.params.proofs.EntriesInside.{name-end, name-told}
 use Rattle.params.proofs.places.is_named_at.Statement.{statement}
 use Rattle.params.proofs.places.is_named_at.Tie as tie
 

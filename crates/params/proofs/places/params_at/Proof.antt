@@ -1,5 +1,5 @@
 use borrow.Author.Needs.{needs}
-use Rattle.params.proofs.Standing.{sheet-long, up-to-most, params-below, params-behind}
+use Rattle.params.proofs.EntriesInside.{sheet-long, up-to-most, params-below, params-behind}
 use Rattle.params.proofs.places.params_at.Statement.{statement}
 use Rattle.params.proofs.places.params_at.Tie as tie
 

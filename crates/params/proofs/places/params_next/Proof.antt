@@ -1,5 +1,5 @@
 use borrow.Author.Needs.{needs}
-use Rattle.params.proofs.Standing.{sheet-long, next-largest, turn-stands, told-entry, told-body, told-lengths, next-value, next-none}
+use Rattle.params.proofs.EntriesInside.{sheet-long, next-largest, turn-stands, told-entry, told-body, told-lengths, next-value, next-none}
 use Rattle.params.proofs.places.params_next.Statement.{statement}
 use Rattle.params.proofs.places.params_next.Tie as tie
 

@@ -1,6 +1,6 @@
 use Prim.Native.Nat.{_-_}
 use Rattle.tokenizer.specs.KeyText.{keyText}
-use Rattle.params.proofs.Standing.{Seeking, sheet-long, seek-start, seek-entry, seek-body, seek-lengths, seek-name, seek-found, seek-less, seek-more, seek-end}
+use Rattle.params.proofs.EntriesInside.{Seeking, sheet-long, seek-start, seek-entry, seek-body, seek-lengths, seek-name, seek-found, seek-less, seek-more, seek-end}
 use Rattle.params.proofs.places.place_named.Statement.{statement}
 use Rattle.params.proofs.places.place_named.Tie as tie
 

@@ -1,5 +1,5 @@
 use Prim.Native.Nat.{_-_}
-use Rattle.params.proofs.Standing.{Reached, sheet-long, reach-start, reach-entry, reach-body, reach-lengths, reach-less, reach-more, reach-end}
+use Rattle.params.proofs.EntriesInside.{Reached, sheet-long, reach-start, reach-entry, reach-body, reach-lengths, reach-less, reach-more, reach-end}
 use Rattle.params.proofs.places.place_of.Statement.{statement}
 use Rattle.params.proofs.places.place_of.Tie as tie
 

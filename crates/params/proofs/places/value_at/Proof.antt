@@ -1,5 +1,5 @@
 use borrow.Author.Needs.{needs}
-use Rattle.params.proofs.Standing.{sheet-long, told-lengths, told-fits, value-here, value-none}
+use Rattle.params.proofs.EntriesInside.{sheet-long, told-lengths, told-fits, value-here, value-none}
 use Rattle.params.proofs.places.value_at.Statement.{statement}
 use Rattle.params.proofs.places.value_at.Tie as tie
 

@@ -1,5 +1,5 @@
 use borrow.Author.Needs.{needs}
-use Rattle.params.proofs.Standing.{sheet-long, stands, value-numbered, value-none}
+use Rattle.params.proofs.EntriesInside.{sheet-long, stands, value-numbered, value-none}
 use Rattle.params.proofs.places.value_numbered.Statement.{statement}
 use Rattle.params.proofs.places.value_numbered.Tie as tie
 

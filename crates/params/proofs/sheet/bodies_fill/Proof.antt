@@ -1,6 +1,6 @@
 use borrow.Author.Needs.{needs}
 use Prim.Native.Nat.{_-_}
-use Rattle.params.proofs.Sheets.{Checking, start-long, check-start, check-body, check-lengths, check-entry, check-less, check-more, check-fails, check-end}
+use Rattle.params.proofs.SheetEntries.{Checking, start-long, check-start, check-body, check-lengths, check-entry, check-less, check-more, check-fails, check-end}
 use Rattle.params.proofs.sheet.bodies_fill.Statement.{statement}
 use Rattle.params.proofs.sheet.bodies_fill.Tie as tie
 

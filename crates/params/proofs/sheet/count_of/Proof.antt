@@ -1,5 +1,5 @@
 use borrow.Author.Needs.{needs}
-use Rattle.params.proofs.Contents.{count-is}
+use Rattle.params.proofs.SheetContents.{count-is}
 use Rattle.params.proofs.sheet.count_of.Statement.{statement}
 use Rattle.params.proofs.sheet.count_of.Tie as tie
 

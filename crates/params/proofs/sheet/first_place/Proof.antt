@@ -1,5 +1,5 @@
 use borrow.Author.Needs.{needs}
-use Rattle.params.proofs.Contents.{product-fits, bodies-fit, first-is}
+use Rattle.params.proofs.SheetContents.{product-fits, bodies-fit, first-is}
 use Rattle.params.proofs.sheet.first_place.Statement.{statement}
 use Rattle.params.proofs.sheet.first_place.Tie as tie
 

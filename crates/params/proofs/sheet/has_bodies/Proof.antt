@@ -1,5 +1,5 @@
 use borrow.Author.Needs.{needs}
-use Rattle.params.proofs.Sheets.{bodies-long, value-told, name-bad}
+use Rattle.params.proofs.SheetEntries.{bodies-long, value-told, name-bad}
 use Rattle.params.proofs.sheet.has_bodies.Statement.{statement}
 use Rattle.params.proofs.sheet.has_bodies.Tie as tie
 

@@ -1,5 +1,5 @@
 use borrow.Author.Needs.{needs}
-use Rattle.params.proofs.Contents.{high-kind, some-kind, no-kind}
+use Rattle.params.proofs.SheetContents.{high-kind, some-kind, no-kind}
 use Rattle.params.proofs.sheet.is_kind_and_count.Statement.{statement}
 use Rattle.params.proofs.sheet.is_kind_and_count.Tie as tie
 

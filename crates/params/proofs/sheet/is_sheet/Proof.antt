@@ -1,5 +1,5 @@
 use borrow.Author.Needs.{needs}
-use Rattle.params.proofs.Sheets.{too-short, overlong, sheet-told, wrong-kind}
+use Rattle.params.proofs.SheetEntries.{too-short, overlong, sheet-told, wrong-kind}
 use Rattle.params.proofs.sheet.is_sheet.Statement.{statement}
 use Rattle.params.proofs.sheet.is_sheet.Tie as tie
 

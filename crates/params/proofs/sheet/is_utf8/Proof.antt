@@ -1,5 +1,5 @@
 use borrow.Author.Needs.{needs}
-use Rattle.params.proofs.Contents.{ill-formed, all-well-formed}
+use Rattle.params.proofs.SheetContents.{ill-formed, all-well-formed}
 use Rattle.params.proofs.sheet.is_utf8.Statement.{statement}
 use Rattle.params.proofs.sheet.is_utf8.Tie as tie
 

@@ -1,5 +1,5 @@
 use borrow.Author.Needs.{needs}
-use Rattle.params.proofs.Contents.{some-sheet, named-room, value-room, unnamed-room, named-lengths, unnamed-lengths}
+use Rattle.params.proofs.SheetContents.{some-sheet, named-room, value-room, unnamed-room, named-lengths, unnamed-lengths}
 use Rattle.params.proofs.sheet.lengths_at.Statement.{statement}
 use Rattle.params.proofs.sheet.lengths_at.Tie as tie
 

@@ -1,5 +1,5 @@
 use borrow.Author.Needs.{needs}
-use Rattle.params.proofs.Contents.{named-params, indexed-params, no-params}
+use Rattle.params.proofs.SheetContents.{named-params, indexed-params, no-params}
 use Rattle.params.proofs.sheet.params_of.Statement.{statement}
 use Rattle.params.proofs.sheet.params_of.Tie as tie
 

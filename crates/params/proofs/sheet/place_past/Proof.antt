@@ -1,5 +1,5 @@
 use borrow.Author.Needs.{needs}
-use Rattle.params.proofs.Contents.{some-sheet, past-is}
+use Rattle.params.proofs.SheetContents.{some-sheet, past-is}
 use Rattle.params.proofs.sheet.place_past.Statement.{statement}
 use Rattle.params.proofs.sheet.place_past.Tie as tie
 

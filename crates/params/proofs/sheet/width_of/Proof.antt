@@ -1,6 +1,6 @@
 use native.Mathlib.Omega.{arith}
 use borrow.Author.Needs.{needs}
-use Rattle.params.proofs.Contents.{named-width, unnamed-width}
+use Rattle.params.proofs.SheetContents.{named-width, unnamed-width}
 use Rattle.params.proofs.sheet.width_of.Statement.{statement}
 use Rattle.params.proofs.sheet.width_of.Tie as tie
 

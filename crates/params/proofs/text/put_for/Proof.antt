@@ -1,5 +1,5 @@
 use borrow.Author.Needs.{needs}
-use Rattle.params.proofs.Handing.{for-inside, for-room, for-fits, for-length, for-put}
+use Rattle.params.proofs.PartBytes.{for-inside, for-room, for-fits, for-length, for-put}
 use Rattle.params.proofs.text.put_for.Statement.{statement}
 use Rattle.params.proofs.text.put_for.Tie as tie
 

@@ -14,7 +14,7 @@ use Rattle.unicode.specs.Utf8.{wellFormed}
 use Rattle.params.specs.declared.Lengths.{Lengths}
 use Rattle.params.specs.declared.Place.{Place}
 use Rattle.params.specs.Sheet.{countOf, width, lengthsAt, past, placeOf, nameAt, valueAt, nameOf, valueOf, bodiesAreUtf8, fillsExactly, isSheetLength, isKindAndCount, isSheet}
-use Rattle.params.proofs.Contents.{either-width}
+use Rattle.params.proofs.SheetContents.{either-width}
 
 module _ (sheet : List ℕ) where
   pub place-entry : (n : ℕ) → placeOf sheet n .entry ≡ n

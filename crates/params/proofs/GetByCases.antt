@@ -20,10 +20,10 @@ use Rattle.params.specs.declared.QueryParams.the-variants as Q
 use Rattle.params.specs.Sheet.{paramsOf, countOf, placeOf}
 use Rattle.params.specs.Keys.{hasKey, hasName, hasNoIndex}
 use Rattle.params.specs.Get.{withName, byName, byIndex, taken, ownText, valueOr, get, countedOn, indexFrom, indexPast}
-use Rattle.params.specs.Carried.{upTo, paramsAt}
-use Rattle.params.specs.Cases.{namedPart, indexedPart, indexedPast}
+use Rattle.params.specs.Inner.Carried.{upTo, paramsAt}
+use Rattle.params.specs.Inner.Cases.{namedPart, indexedPart, indexedPast}
 use Rattle.params.specs.Filled.{isPlaceholder, standsFor, indexAfter}
-use Rattle.params.proofs.Standing.{entry-of, turn-entry}
+use Rattle.params.proofs.EntriesInside.{entry-of, turn-entry}
 
 module _ (sheet : List ℕ) where
   -- no entry

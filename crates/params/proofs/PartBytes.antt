@@ -14,8 +14,8 @@ use Rattle.params.specs.declared.Part.the-variants as P
 use Rattle.tokenizer.specs.declared.Token.{Token}
 use Rattle.params.specs.Sheet.{isSheet}
 use Rattle.params.specs.Filled.{standsFor, partBytes, partLength, partStart}
-use Rattle.params.specs.Inside.{PartInside}
-use Rattle.params.proofs.Reading.{stands-inside}
+use Rattle.params.specs.Inner.Inside.{PartInside}
+use Rattle.params.proofs.TokensInside.{stands-inside}
 
 module _ (start len : ℕ) where
   back : start + len - start ≡ len

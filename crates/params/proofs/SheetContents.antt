@@ -13,16 +13,13 @@ use mir.Val.{Fits}
 use Rattle.unicode.specs.declared.IllFormed.{IllFormed}
 use Rattle.unicode.specs.declared.IllFormed.the-variants.{At, Nowhere}
 use Rattle.unicode.specs.Utf8.{wellFormedFrom, firstIllFormed, wellFormed}
+use Rattle.calls.specs.LittleEndian.{numberAt}
 use Rattle.params.specs.declared.Lengths.{Lengths}
 use Rattle.params.specs.declared.Place.{Place}
 use Rattle.params.specs.declared.QueryParams.the-variants.{None, Named, Indexed}
-use Rattle.params.specs.Sheet.{le16, kindOf, paramsOf, countOf, isNamed, width, lengthsAt, past, placeOf, isKindAndCount}
+use Rattle.params.specs.Sheet.{kindOf, paramsOf, countOf, isNamed, width, lengthsAt, past, placeOf, isKindAndCount}
 
 module _ (sheet : List ℕ) where
-  pub le16-is : (at a b : ℕ) → a ≡ getD sheet at 0 → b ≡ getD sheet (at + 1) 0 → a + 256 * b ≡ le16 sheet at
-  unfolding le16
-  le16-is at a b e f = rw (e, f)
-
   pub named-params : getD sheet 0 0 ≡ 1 → Named ≡ paramsOf sheet
   unfolding paramsOf kindOf
   named-params e = rw (eq-eqb _ _ e)
@@ -35,7 +32,7 @@ module _ (sheet : List ℕ) where
   unfolding paramsOf kindOf
   no-params e f = rw (ne-eqb _ _ e, ne-eqb _ _ f)
 
-  pub count-is : (n : ℕ) → n ≡ le16 sheet 1 → n ≡ countOf sheet
+  pub count-is : (n : ℕ) → n ≡ numberAt 2 sheet 1 → n ≡ countOf sheet
   unfolding countOf
   count-is n e = e
 
@@ -81,20 +78,20 @@ module _ (sheet : List ℕ) where
     some-sheet h = omega (arith, some-width)
 
     module _ (b : Bool) (e : b ≡ isNamed sheet) where
-      pub named-room : b ≡ true → p .lengths + width sheet ≤ length sheet → p .lengths + 1 < length sheet
+      pub named-room : b ≡ true → p .lengths + width sheet ≤ length sheet → p .lengths + 2 ≤ length sheet
       named-room f h = omega (arith, named-width b e f)
 
-      pub value-room : b ≡ true → p .lengths + width sheet ≤ length sheet → p .lengths + 2 + 1 < length sheet
+      pub value-room : b ≡ true → p .lengths + width sheet ≤ length sheet → p .lengths + 2 + 2 ≤ length sheet
       value-room f h = omega (arith, named-width b e f)
 
-      pub unnamed-room : b ≡ false → p .lengths + width sheet ≤ length sheet → p .lengths + 1 < length sheet
+      pub unnamed-room : b ≡ false → p .lengths + width sheet ≤ length sheet → p .lengths + 2 ≤ length sheet
       unnamed-room f h = omega (arith, unnamed-width b e f)
 
-      pub named-lengths : (n v : ℕ) → b ≡ true → n ≡ le16 sheet (p .lengths) → v ≡ le16 sheet (p .lengths + 2) → _≡_ {A = Lengths} (record { name = n; value = v }) (lengthsAt sheet p)
+      pub named-lengths : (n v : ℕ) → b ≡ true → n ≡ numberAt 2 sheet (p .lengths) → v ≡ numberAt 2 sheet (p .lengths + 2) → _≡_ {A = Lengths} (record { name = n; value = v }) (lengthsAt sheet p)
       unfolding lengthsAt
       named-lengths n v f g h = rw (← e, f, g, h)
 
-      pub unnamed-lengths : (v : ℕ) → b ≡ false → v ≡ le16 sheet (p .lengths) → _≡_ {A = Lengths} (record { name = 0; value = v }) (lengthsAt sheet p)
+      pub unnamed-lengths : (v : ℕ) → b ≡ false → v ≡ numberAt 2 sheet (p .lengths) → _≡_ {A = Lengths} (record { name = 0; value = v }) (lengthsAt sheet p)
       unfolding lengthsAt
       unnamed-lengths v f g = rw (← e, f, g)
 

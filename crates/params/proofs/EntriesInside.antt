@@ -20,9 +20,9 @@ use Rattle.params.specs.declared.Part.the-variants as P
 use Rattle.params.specs.declared.Place.{Place}
 use Rattle.params.specs.Sheet.{countOf, width, lengthsAt, past, placeOf, nameAt, nameOf, fillsExactly, isSheetLength, isKindAndCount, isSheet, bodiesAreUtf8}
 use Rattle.params.specs.Get.{firstNamed, withName, ownText, valuePart, valueOr, largest, countedOn}
-use Rattle.params.specs.Carried.{upTo, paramsAt}
-use Rattle.params.proofs.Contents.{either-width}
-use Rattle.params.proofs.Sheets.{place-entry, body-up-to, bodies-start, lengths-before}
+use Rattle.params.specs.Inner.Carried.{upTo, paramsAt}
+use Rattle.params.proofs.SheetContents.{either-width}
+use Rattle.params.proofs.SheetEntries.{place-entry, body-up-to, bodies-start, lengths-before}
 
 left-true : (a b : Bool) → (a && b) ≡ true → a ≡ true
 left-true true b e = refl

@@ -7,7 +7,7 @@ use Rattle.params.specs.declared.Params.{Params}
 use Rattle.params.specs.declared.Part.{Part}
 use Rattle.params.specs.declared.QueryParams.the-variants.{Indexed}
 use Rattle.params.specs.Get.{byName, takenFrom, valueOr, indexFrom}
-use Rattle.params.specs.Carried.{paramsAt}
+use Rattle.params.specs.Inner.Carried.{paramsAt}
 
 -- what stands for a placeholder with a named sheet
 abbrev pub namedPart : List ℕ → List ℕ → Token → Part

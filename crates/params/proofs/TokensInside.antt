@@ -28,10 +28,10 @@ use Rattle.tokenizer.proofs.Steps.{step-moves}
 use Rattle.params.specs.declared.Part.{Part}
 use Rattle.params.specs.declared.Part.the-variants as P
 use Rattle.params.specs.Sheet.{countOf, lengthsAt, placeOf, isSheet}
-use Rattle.params.specs.Inside.{keyEnd, PartInside}
+use Rattle.params.specs.Inner.Inside.{keyEnd, PartInside}
 use Rattle.params.specs.Get.{taken, valuePart, valueOr, get}
 use Rattle.params.specs.Filled.{isPlaceholder, standsFor, partBytes, partLength}
-use Rattle.params.proofs.Standing.{at-end, stands, entry-of}
+use Rattle.params.proofs.EntriesInside.{at-end, stands, entry-of}
 
 key-ends : (at n : ℕ) (key : Key) → KeyFits n key → keyEnd (placed at key) ≤ at + n
 key-ends at n K.None h = zero-le

@@ -1,7 +1,7 @@
 use borrow.Author.Needs.{needs}
-use Rattle.tight.proofs.TightenAnswers.{full-answer, full-output, done-room, done-answer, done-output}
-use Rattle.params.proofs.filling.fill_output.Statement.{statement}
-use Rattle.params.proofs.filling.fill_output.Tie as tie
+use Rattle.calls.proofs.TextCalls.{full-answer, full-output, written-room, written-answer, written-output}
+use Rattle.params.proofs.filling.measure_then_write.Statement.{statement}
+use Rattle.params.proofs.filling.measure_then_write.Tie as tie
 
 filled-length-requires : tie.Need-filled-length-requires
 filled-length-requires c κs = search needs
@@ -10,14 +10,14 @@ returns : tie.Need-returns
 returns c = search (full-answer, full-output)
 
 write-filled-requires : tie.Need-write-filled-requires
-write-filled-requires c κs = search (done-room, needs)
+write-filled-requires c κs = search (written-room, needs)
 
 same-length : tie.Need-same-length
 same-length c = search needs
 
 returns-2 : tie.Need-returns-2
-returns-2 c = search (done-answer, done-output)
+returns-2 c = search (written-answer, written-output)
 
-pub fill-output-spec : {M : Type 1} → statement M
-fill-output-spec =
+pub measure-then-write-spec : {M : Type 1} → statement M
+measure-then-write-spec =
     tie.close (tie.spec filled-length-requires returns write-filled-requires same-length returns-2)

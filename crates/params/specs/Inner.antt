@@ -1,0 +1,4 @@
+-- For the contracts of inner functions alone: no promise of the crate names any of it.
+pub mod Carried
+pub mod Cases
+pub mod Inside
