@@ -93,9 +93,9 @@ $(build)/stack_%: tests/stack/%.rs $(wildcard tests/stack/*) tests/random/texts.
 	ar rc $(build)/libpainted.a $(build)/painted.o $(build)/painted_fill.o
 	$(rust) -o $@ $< -L $(build) -l static=painted -L target/staticlib -l static=ventpeeler
 
-$(build)/replay_lookup: tests/lookup/replay.rs tests/replaying.rs target/staticlib/libparams_exports.a
+$(build)/replay_lookup: tests/lookup/replay.rs tests/replaying.rs target/staticlib/libcalls_exports.a
 	@mkdir -p $(build)
-	$(rust) -o $@ $< -L target/staticlib -l static=params_exports
+	$(rust) -o $@ $< -L target/staticlib -l static=calls_exports
 
 # unicode_categories is older than its compiler, which warns of that
 $(build)/libunicode_categories.rlib: $(categories)

@@ -1,4 +1,4 @@
-// Replays the lookups of tests/vectors/fill.txt through libparams_exports.a, prints each failure and a count. The file says
+// Replays the lookups of tests/vectors/fill.txt through libcalls_exports.a, prints each failure and a count. The file says
 // how its answers were made and what its lines mean.
 #[path = "../replaying.rs"]
 mod replaying;
@@ -6,7 +6,7 @@ mod replaying;
 use replaying::{continued, hexadecimal, marked, numbers, repeated, unescape, Count, GUARD};
 
 extern "C" {
-    fn params_lookup(
+    fn calls_lookup(
         statement: *const u8, statement_len: usize, dialect: u64, joins: u64, named: u64,
         sheet: *const u8, sheet_len: usize, place: usize, counter: *mut u64, number: *mut u64, detail: *mut u64,
         bytes: *mut u8, bytes_len: usize,
@@ -35,7 +35,7 @@ fn main() {
                 let part = unescape(words.next().unwrap_or(""));
                 let (mut counter, mut number, mut detail) = (told[1], 99, 99);
                 unsafe {
-                    params_lookup(
+                    calls_lookup(
                         statement.as_ptr(), statement.len(), settings[0], settings[1], settings[2],
                         sheet.as_ptr(), sheet.len(), told[0] as usize, &mut counter, &mut number, &mut detail,
                         bytes.as_mut_ptr(), bytes.len(),

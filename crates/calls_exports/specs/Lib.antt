@@ -1,0 +1,2 @@
+-- What the twins say in numbers.
+pub mod Places
