@@ -14,7 +14,7 @@ use Rattle.recognisers.specs.declared.Key.{Key}
 use Rattle.recognisers.specs.declared.Key.the-variants as K
 use Rattle.recognisers.specs.declared.Recognised.{Recognised}
 use Rattle.recognisers.specs.declared.Recognised.the-variants as R
-use Rattle.recognisers.proofs.Sizes.{KeyFits, Sized, Sound}
+use Rattle.recognisers.proofs.PieceSizes.{KeyFits, Sized, Sound}
 use Rattle.tokenizer.specs.declared.Cursor.{Cursor}
 use Rattle.tokenizer.specs.declared.Settings.{Settings}
 use Rattle.tokenizer.specs.declared.Step.{Step}

@@ -18,7 +18,7 @@ use Rattle.recognisers.specs.declared.Recognised.the-variants as R
 use Rattle.recognisers.specs.declared.TokenKind.{TokenKind}
 use Rattle.recognisers.specs.declared.TokenKind.the-variants as K
 use Rattle.recognisers.specs.Kinds.{isKind}
-use Rattle.recognisers.proofs.Sizes.{KeyFits, Sized, Sound}
+use Rattle.recognisers.proofs.PieceSizes.{KeyFits, Sized, Sound}
 use Rattle.tokenizer.specs.declared.Memory.{Memory}
 use Rattle.tokenizer.specs.declared.Settings.{Settings}
 use Rattle.tokenizer.specs.NextToken.{nextPiece}

@@ -15,11 +15,11 @@ use Rattle.unicode.specs.declared.IllFormed.the-variants.{At, Nowhere}
 use Rattle.unicode.specs.Classes.{isWhitespace}
 use Rattle.unicode.specs.Runs.{run}
 use Rattle.unicode.specs.Utf8.{firstIllFormed, wellFormed}
-use Rattle.unicode.proofs.Characters.{ill-formed-nowhere}
-use Rattle.unicode.proofs.Cuts.{end-formed, run-cut}
+use Rattle.unicode.proofs.WellFormedSteps.{ill-formed-nowhere}
+use Rattle.unicode.proofs.WellFormedCuts.{end-formed, run-cut}
 use Rattle.recognisers.specs.declared.Recognised.the-variants as R
 use Rattle.recognisers.specs.declared.TokenKind.{TokenKind}
-use Rattle.recognisers.proofs.Boundaries.{Bounded}
+use Rattle.recognisers.proofs.PieceBoundaries.{Bounded}
 use Rattle.tokenizer.specs.declared.Answer.{Answer}
 use Rattle.tokenizer.specs.declared.Answer.the-variants as A
 use Rattle.tokenizer.specs.declared.Checked.the-variants.{Accepted, Refused}
@@ -37,7 +37,7 @@ use Rattle.tight.proofs.Readings.{past, readFrom, reading-is, read-none
 use Rattle.tight.proofs.GapRuns.{each-rest, gap-of}
 use Rattle.tight.proofs.Again.{found, inner, items-gap, joint, render, render-one, separates}
 use Rattle.tight.proofs.Rendering.{tight-is}
-use Rattle.unicode.proofs.Replacing.{replaced, ascii-before}
+use Rattle.unicode.proofs.ReplacedEnds.{replaced, ascii-before}
 
 -- ---- it is well formed
 

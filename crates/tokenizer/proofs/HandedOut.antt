@@ -13,7 +13,7 @@ use Rattle.recognisers.specs.declared.Recognised.the-variants as R
 use Rattle.recognisers.specs.declared.TokenKind.{TokenKind}
 use Rattle.recognisers.specs.declared.TokenKind.the-variants
 use Rattle.recognisers.specs.Kinds.{kindNumber}
-use Rattle.recognisers.proofs.Sizes.{KeyFits, Sized}
+use Rattle.recognisers.proofs.PieceSizes.{KeyFits, Sized}
 use Rattle.tokenizer.specs.declared.Memory.{Memory}
 use Rattle.tokenizer.specs.declared.Settings.{Settings}
 use Rattle.tokenizer.specs.declared.Token.{Token}
