@@ -14,7 +14,7 @@ use Rattle.recognisers.specs.declared.Key.{Key}
 use Rattle.recognisers.specs.declared.Key.the-variants as K
 use Rattle.recognisers.specs.declared.Recognised.{Recognised}
 use Rattle.recognisers.specs.declared.Recognised.the-variants as R
-use Rattle.recognisers.proofs.Sizes.{KeyFits, Sized, Sound}
+use Rattle.recognisers.proofs.PieceSizes.{KeyFits, Sized, Sound}
 use Rattle.tokenizer.specs.declared.Cursor.{Cursor}
 use Rattle.calls.specs.declared.Settings.{Settings}
 use Rattle.tokenizer.specs.declared.Step.{Step}
@@ -23,7 +23,7 @@ use Rattle.tokenizer.specs.declared.Token.{Token}
 use Rattle.tokenizer.specs.Memory.{remembered}
 use Rattle.tokenizer.specs.NextToken.{nextPiece}
 use Rattle.tokenizer.specs.Tokens.{placed, tokenAt, stepAt}
-use Rattle.tokenizer.proofs.PieceSizes.{piece-sized}
+use Rattle.tokenizer.proofs.NextPieceSizes.{piece-sized}
 use Rattle.tokenizer.proofs.Steps.{step-moves}
 use Rattle.params.specs.declared.Part.{Part}
 use Rattle.params.specs.declared.Part.the-variants as P

@@ -1,28 +1,22 @@
 -- Whitespace and what follows it.
 -- Assumes nothing.
-use Prim.Native.Nat.{ℕ, zero, suc, _+_, _-_, _^_, _≤_, _<_, zero-le, suc-le-suc}
-use native.Mathlib.Omega.{arith}
-use mathlib.Core.Path.{_≡_, refl, sym, ap, _∙_}
+use Prim.Native.Nat.{ℕ, _+_, _-_, _^_, _≤_, _<_, zero-le, suc-le-suc}
+use mathlib.Core.Path.{_≡_, refl, sym, _∙_}
 use mathlib.Core.List.{List, [], _∷_}
-use mathlib.Core.Bool.{Bool, true, false, cond}
+use mathlib.Core.Bool.{Bool, true, false}
 use lib.ListN.{length, drop, take}
-use Rattle.unicode.specs.Ranges.{within, inRanges}
-use Rattle.unicode.specs.WhiteSpace.{whiteSpace}
 use Rattle.unicode.specs.Classes.{isWhitespace}
 use Rattle.unicode.specs.Character.{codePoint}
 use Rattle.unicode.specs.Runs.{inClass, run}
 use Rattle.unicode.specs.declared.Class.the-variants.{Whitespace}
+use Rattle.unicode.proofs.ClassesApart.{end-not-white}
+use Rattle.unicode.proofs.Rests.{part-end}
 use Rattle.unicode.proofs.RunLaws.{run-inside, run-none-class, run-some-class}
 use Rattle.recognisers.specs.declared.Taken.{Taken}
-use Rattle.recognisers.specs.declared.Taken.the-variants.{Bytes, Fails}
+use Rattle.recognisers.specs.declared.Taken.the-variants.{Fails}
 use Rattle.recognisers.specs.Taking.{Part, taken, more, capital, isSpelled, spelled, blanks, endOfWord}
-use Rattle.recognisers.proofs.Spelling.{part-end, word-fits, word-then, word-not}
-use Rattle.recognisers.proofs.Inside.{Inside, fits-more, then-inside, cond-inside, spelled-inside, end-of-word-inside}
-
--- U+0000, which stands for the end, is no whitespace
-none-at-end : isWhitespace (codePoint []) ≡ false
-unfolding isWhitespace inRanges within whiteSpace codePoint
-none-at-end = refl
+use Rattle.recognisers.proofs.Spelling.{word-fits, word-then, word-not}
+use Rattle.recognisers.proofs.TakenInside.{Inside, fits-more, then-inside, cond-inside, spelled-inside, end-of-word-inside}
 
 module _ (s : List ℕ) (n : ℕ) (e : n ≡ run (inClass Whitespace) 0 s) where
   pub blanks-fit : n ≤ length s
@@ -33,7 +27,7 @@ module _ (s : List ℕ) (n : ℕ) (e : n ≡ run (inClass Whitespace) 0 s) where
   none z = go s refl
     where
       go : (t : List ℕ) → s ≡ t → isWhitespace (codePoint s) ≡ false
-      go [] q = rw q none-at-end
+      go [] q = rw q end-not-white
       go (b ∷ t) q = run-none-class Whitespace s (rw q (suc-le-suc zero-le)) (sym e ∙ z)
 
   module _ (then : Part) where

@@ -1,6 +1,6 @@
 -- Digits and marks, and what follows them.
 -- Assumes nothing.
-use Prim.Native.Nat.{ℕ, zero, suc, _+_, _-_, _≤_, _<_, zero-le, suc-le-suc}
+use Prim.Native.Nat.{ℕ, _+_, _-_, _≤_, zero-le, suc-le-suc}
 use native.Mathlib.Nat.{add-zero}
 use native.Mathlib.Omega.{arith}
 use mathlib.Core.Path.{_≡_, refl, sym, ap, _∙_}
@@ -8,15 +8,15 @@ use mathlib.Core.List.{List, [], _∷_}
 use mathlib.Core.Bool.{Bool, true, false, cond, false≢true}
 use lib.ListN.{length, drop, take, getD}
 use lib.Dec.{leb}
-use borrow.Author.Tests.{le-leb, lt-leb}
+use borrow.Author.Tests.{le-leb}
 use Rattle.recognisers.specs.declared.Taken.{Taken}
 use Rattle.recognisers.specs.declared.Taken.the-variants.{Bytes, Fails}
 use Rattle.recognisers.specs.Text.{bytes}
-use Rattle.recognisers.specs.Taking.{Part, taken, more, or, done, one, typed, spelled, digit1, digit0, count, isDigit, atLeast, contains, startsAmong}
+use Rattle.recognisers.specs.Taking.{Part, more, or, done, one, typed, spelled, digit1, digit0, count, isDigit, atLeast, contains, startsAmong}
 use Rattle.recognisers.specs.Number.{decimalNumber, signedDigits, exponent, scientificNotation, unsigned}
-use Rattle.recognisers.proofs.Counting.{count-inside}
-use Rattle.recognisers.proofs.Spelling.{part-end}
-use Rattle.recognisers.proofs.Inside.{Inside, or-inside, done-inside, one-inside, spelled-inside, digit0-inside, digit1-inside}
+use Rattle.recognisers.proofs.ByteLoops.{count-inside}
+use Rattle.unicode.proofs.Rests.{part-end}
+use Rattle.recognisers.proofs.TakenInside.{Inside, or-inside, done-inside, one-inside, spelled-inside, digit0-inside, digit1-inside}
 
 module _ (then : Part) (s : List ℕ) (n : ℕ) (e : n ≡ count isDigit s) where
   pub digits-fit : n ≤ length s

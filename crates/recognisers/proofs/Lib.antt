@@ -1,14 +1,14 @@
 -- Laws that the proofs cite.
-pub mod Counting
-pub mod Choosing
+pub mod ByteLoops
+pub mod OrderedChoice
 pub mod Spelling
 pub mod SameBytes
-pub mod Inside
-pub mod Cases
-pub mod Comments
-pub mod Quotes
+pub mod TakenInside
+pub mod MatchedAnswers
+pub mod CommentLoops
+pub mod ClosingQuote
 pub mod Blanks
 pub mod Digits
 pub mod PlaceholderLaws
-pub mod Sizes
-pub mod Boundaries
+pub mod PieceSizes
+pub mod PieceBoundaries

@@ -1,15 +1,15 @@
 -- Placeholders: their numbers, names and escapes.
 -- Assumes nothing.
-use Prim.Native.Nat.{ℕ, zero, suc, _+_, _-_, _*_, _/_, _^_, _≤_, _<_, zero-le, suc-le-suc}
-use native.Mathlib.Nat.{le-refl, le-trans, le-of-eq, add-zero}
+use Prim.Native.Nat.{ℕ, suc, _+_, _-_, _*_, _/_, _^_, _≤_, _<_, zero-le}
+use native.Mathlib.Nat.{le-refl, le-trans, le-of-eq}
 use native.Mathlib.Numerals.{add-one}
 use native.Mathlib.Omega.{arith}
 use mathlib.Core.Path.{_≡_, refl, sym, ap, _∙_}
 use mathlib.Core.List.{List, [], _∷_}
-use mathlib.Core.Bool.{Bool, true, false, cond, _&&_, _||_}
-use lib.ListN.{length, drop, take, getD, drop-of-length-le, length-drop}
+use mathlib.Core.Bool.{Bool, true, false, cond, _&&_}
+use lib.ListN.{length, drop, take, getD, drop-of-length-le}
 use lib.Seq.{drop-cons}
-use lib.Dec.{ltb, leb, eqb}
+use lib.Dec.{leb, eqb}
 use borrow.Author.Tests.{lt-ltb, le-ltb, le-leb, lt-leb, eq-eqb, ne-eqb}
 use Rattle.unicode.specs.Runs.{inClass, run}
 use Rattle.unicode.specs.Classes.{isPlaceholderNameCharacter}
@@ -24,18 +24,16 @@ use Rattle.recognisers.specs.declared.Key.the-variants.{None, Named, Esc
 use Rattle.recognisers.specs.declared.Number.{Number}
 use Rattle.recognisers.specs.declared.Number.the-variants.{Is, Overflows}
 use Rattle.recognisers.specs.declared.TokenKind.the-variants.{Placeholder}
-use Rattle.recognisers.specs.declared.Recognised.{Recognised}
 use Rattle.recognisers.specs.declared.Recognised.the-variants.{Token, Nothing}
-use Rattle.recognisers.specs.Text.{byte, bytes}
+use Rattle.recognisers.specs.Text.{bytes}
 use Rattle.recognisers.specs.Pieces.{piece}
-use Rattle.recognisers.specs.Taking.{Part, taken, more, or, done, one, typed, spelled, digit1, atLeast, contains, startsAmong, startsWith}
+use Rattle.recognisers.specs.Taking.{taken, more, done, one, typed, spelled, digit1, contains, startsAmong, startsWith}
 use Rattle.recognisers.specs.Strings.{closedBy, inSQLServer, placeholderQuotedPart, placeholderStringPart}
-use Rattle.recognisers.specs.Placeholder.{keyed, numberFrom, numberOf, indexed, indexedKey, indexedPart, placeholderName, identPart, throughBrace, bracedText, bracedPart, hasEscape, stringKey, stringNamedPart, getIndexedPlaceholderToken, getIdentNamedPlaceholderToken, getBracedNamedPlaceholderToken, getStringNamedPlaceholderToken}
-use Rattle.recognisers.proofs.Spelling.{part-end}
-use Rattle.recognisers.proofs.Inside.{Inside, or-inside, done-inside, one-inside, spelled-inside, cond-inside, fits-more}
+use Rattle.recognisers.specs.Placeholder.{numberFrom, numberOf, indexed, indexedKey, indexedPart, placeholderName, identPart, throughBrace, bracedText, bracedPart, hasEscape, stringKey, stringNamedPart, getIndexedPlaceholderToken, getIdentNamedPlaceholderToken, getBracedNamedPlaceholderToken, getStringNamedPlaceholderToken}
+use Rattle.recognisers.proofs.TakenInside.{Inside, or-inside, done-inside, one-inside, spelled-inside, cond-inside, fits-more}
 use Rattle.recognisers.proofs.Digits.{digits-inside, marked-fits, marked-then, marked-not}
-use Rattle.recognisers.proofs.Comments.{PassedAt, passed-start, passed-more}
-use Rattle.recognisers.proofs.Quotes.{quoted-inside}
+use Rattle.recognisers.proofs.CommentLoops.{PassedAt, passed-more}
+use Rattle.recognisers.proofs.ClosingQuote.{quoted-inside}
 
 -- ---- a number
 

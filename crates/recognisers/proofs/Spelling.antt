@@ -1,23 +1,20 @@
 -- A word at the start of a rest, in a form of the text's bytes: as typed, or in capitals.
 -- Assumes nothing.
-use Prim.Native.Nat.{ℕ, zero, suc, _+_, _-_, _≤_, _<_, zero-le, suc-le-suc}
-use native.Mathlib.Nat.{le-of-suc-le-suc, not-suc-le-zero, add-zero, zero-add, suc-add, add-suc}
+use Prim.Native.Nat.{ℕ, suc, _+_, _-_, _≤_, _<_, zero-le, suc-le-suc}
+use native.Mathlib.Nat.{le-of-suc-le-suc, not-suc-le-zero, add-zero, zero-add}
 use native.Mathlib.Numerals.{add-one, one-add}
 use native.Mathlib.Omega.{arith}
 use mathlib.Core.Path.{_≡_, refl, sym, ap, _∙_}
 use mathlib.Core.List.{List, [], _∷_}
 use mathlib.Core.Bool.{Bool, true, false, cond, _&&_, false≢true, and-eq-true-iff, and-false}
-use lib.ListN.{length, drop, take, getD, drop-of-length-le, length-drop}
-use lib.Seq.{drop-cons, take-all}
+use lib.ListN.{length, drop, take, getD, drop-of-length-le}
+use lib.Seq.{drop-cons}
 use lib.Dec.{eqb}
 use borrow.Author.Tests.{eq-eqb, ne-eqb}
+use Rattle.unicode.proofs.Rests.{part-end}
 use Rattle.recognisers.specs.declared.Taken.{Taken}
 use Rattle.recognisers.specs.declared.Taken.the-variants.{Bytes, Fails}
-use Rattle.recognisers.specs.Taking.{Part, more, done, one, spelled, isSpelled, typed, capital}
-
--- a part of a rest up to its end
-pub part-end : (s : List ℕ) (k : ℕ) → take (length s - k) (drop k s) ≡ drop k s
-part-end s k = take-all (length s - k) (drop k s) (rw length-drop (omega arith))
+use Rattle.recognisers.specs.Taking.{Part, more, done, one, spelled, isSpelled, typed}
 
 pub more-zero : (t : Taken) → more 0 t ≡ t
 more-zero (Bytes n) = rw (zero-add n)
@@ -95,7 +92,7 @@ module _ (form : ℕ → ℕ) where
     pub word-not : r ≡ false → Fails ≡ spelled form w then s
     word-not n = sym (spelled-is w s then ∙ rw (← e, n))
 
--- the loop of `starts_with` compares bytes as typed
+-- the loop of `is_spelled` compares bytes as typed
 module _ (w s : List ℕ) (i : ℕ) (at : SpelledAt typed w s i) (h : i < length w) where
   pub typed-more : getD s i 0 ≡ getD w i 0 → SpelledAt typed w s (i + 1)
   unfolding typed

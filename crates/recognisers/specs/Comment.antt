@@ -1,6 +1,6 @@
 -- `get_comment_token`.
 use Prim.Native.Nat.{ℕ}
-use mathlib.Core.Bool.{Bool, cond, _&&_}
+use mathlib.Core.Bool.{cond, _&&_}
 use mathlib.Core.List.{List, [], _∷_}
 use lib.Dec.{eqb}
 use Rattle.recognisers.specs.declared.Taken.the-variants.{Bytes, Fails}

@@ -3,8 +3,7 @@ use Prim.Native.Nat.{ℕ}
 use mathlib.Core.List.{List}
 use Rattle.recognisers.specs.declared.Dialect.{Dialect}
 use Rattle.recognisers.specs.declared.Dialect.the-variants.{Generic, PostgreSql, SQLServer}
-use Rattle.recognisers.specs.declared.Taken.{Taken}
-use Rattle.recognisers.specs.declared.Taken.the-variants.{Bytes, Fails}
+use Rattle.recognisers.specs.declared.Taken.the-variants.{Fails}
 use Rattle.recognisers.specs.declared.TokenKind.the-variants.{OpenParen, CloseParen}
 use Rattle.recognisers.specs.declared.Recognised.{Recognised}
 use Rattle.recognisers.specs.Text.{bytes}

@@ -1,11 +1,10 @@
 -- `take_till_escaping`, `get_string_token` and `get_placeholder_string_token`.
 use Prim.Native.Nat.{ℕ}
-use mathlib.Core.Bool.{Bool, true, false, cond, not, _&&_, _||_}
+use mathlib.Core.Bool.{Bool, true, false, cond, not, _&&_}
 use mathlib.Core.List.{List, [], _∷_}
 use lib.Dec.{eqb}
 use Rattle.recognisers.specs.declared.Dialect.{Dialect}
 use Rattle.recognisers.specs.declared.Dialect.the-variants.{Generic, PostgreSql, SQLServer}
-use Rattle.recognisers.specs.declared.Taken.{Taken}
 use Rattle.recognisers.specs.declared.Taken.the-variants.{Bytes, Fails}
 use Rattle.recognisers.specs.declared.TokenKind.the-variants.{String}
 use Rattle.recognisers.specs.declared.Recognised.{Recognised}

@@ -1,17 +1,15 @@
 -- `get_whitespace_token`, `get_operator_token`, `get_word_token` and `get_any_other_char`.
-use Prim.Native.Nat.{ℕ, zero, suc, min}
+use Prim.Native.Nat.{ℕ, min}
 use mathlib.Core.Bool.{Bool, cond, _||_}
-use mathlib.Core.List.{List, [], _∷_}
-use lib.Dec.{leb, eqb}
-use Rattle.recognisers.specs.declared.Taken.{Taken}
-use Rattle.recognisers.specs.declared.Taken.the-variants.{Bytes, Fails}
+use mathlib.Core.List.{List}
+use Rattle.recognisers.specs.declared.Taken.the-variants.{Fails}
 use Rattle.recognisers.specs.declared.TokenKind.the-variants.{Whitespace, Operator, Word}
 use Rattle.recognisers.specs.declared.Recognised.{Recognised}
 use Rattle.recognisers.specs.Text.{byte, bytes}
 use Rattle.recognisers.specs.Taking.{count, atLeast, contains, startsWith}
 use Rattle.recognisers.specs.Pieces.{tokenOf}
 use Rattle.unicode.specs.Classes.{isWhitespace, isWordCharacter}
-use Rattle.unicode.specs.Character.{codePoint, characterLength}
+use Rattle.unicode.specs.Character.{characterLength}
 use Rattle.unicode.specs.Runs.{run}
 
 unfoldable pub getWhitespaceToken : List ℕ → Recognised

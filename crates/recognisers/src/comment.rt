@@ -3,13 +3,12 @@ use crate::Recognised;
 use crate::Taken;
 use crate::TokenKind;
 use crate::scan::first_recognised;
+use crate::scan::is_spelled;
 use crate::scan::n_more;
 use crate::scan::pair_stands_at;
 use crate::scan::stands_at;
-use crate::scan::starts_with;
 use crate::scan::token_of;
 ghost use mathlib.Core.Path.{_≡_};
-ghost use lib.ListN.{length};
 ghost use Rattle.recognisers.specs.Taking.{literal};
 ghost use Rattle.recognisers.specs.Comment.{tillLineEnding, throughBlockEnd, getCommentToken};
 
@@ -51,7 +50,7 @@ fn through_block_end(rest: &[u8]) -> Taken
 fn line_comment(rest: &[u8], mark: &[u8]) -> Taken
     ensures { λ r. ⌜ r ≡ literal (now (mark .entry)) tillLineEnding (now (rest .entry)) ⌝ }
 {
-    if starts_with(rest, mark) {
+    if is_spelled(rest, mark) {
         let n = mark.len();
         return n_more(n, till_line_ending(&rest[n..]));
     }
@@ -61,7 +60,7 @@ fn line_comment(rest: &[u8], mark: &[u8]) -> Taken
 fn block_comment(rest: &[u8], mark: &[u8]) -> Taken
     ensures { λ r. ⌜ r ≡ literal (now (mark .entry)) throughBlockEnd (now (rest .entry)) ⌝ }
 {
-    if starts_with(rest, mark) {
+    if is_spelled(rest, mark) {
         let n = mark.len();
         return n_more(n, through_block_end(&rest[n..]));
     }

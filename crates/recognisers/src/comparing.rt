@@ -1,5 +1,5 @@
 // Exact comparison.
-use crate::scan::starts_with;
+use crate::scan::is_spelled;
 ghost use mathlib.Core.Path.{_≡_};
 ghost use Rattle.recognisers.specs.Same.{same};
 
@@ -8,7 +8,7 @@ pub fn is_exactly(value: &[u8], word: &[u8]) -> bool
     ensures { λ r. ⌜ r ≡ same (now (value .entry)) (now (word .entry)) ⌝ }
 {
     if value.len() == word.len() {
-        return starts_with(value, word);
+        return is_spelled(value, word);
     }
     false
 }

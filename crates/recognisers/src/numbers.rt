@@ -5,9 +5,9 @@ use crate::TokenKind;
 use crate::scan::at_least;
 use crate::scan::count_digits;
 use crate::scan::first_of;
+use crate::scan::is_spelled;
 use crate::scan::n_more;
 use crate::scan::starts_among;
-use crate::scan::starts_with;
 use crate::scan::token_of;
 ghost use mathlib.Core.Path.{_≡_};
 ghost use Rattle.recognisers.specs.Taking.{done, one, literal, digit1, digit0, contains};
@@ -38,7 +38,7 @@ fn signed_digits(rest: &[u8]) -> Taken
 fn exponent_after(rest: &[u8], mark: &[u8]) -> Taken
     ensures { λ r. ⌜ r ≡ literal (now (mark .entry)) signedDigits (now (rest .entry)) ⌝ }
 {
-    if starts_with(rest, mark) {
+    if is_spelled(rest, mark) {
         let n = mark.len();
         return n_more(n, signed_digits(&rest[n..]));
     }
@@ -70,7 +70,7 @@ fn fraction(rest: &[u8]) -> Taken
 fn point_fraction_exponent(rest: &[u8], point: &[u8]) -> Taken
     ensures { λ r. ⌜ r ≡ literal (now (point .entry)) (digit0 exponent) (now (rest .entry)) ⌝ }
 {
-    if starts_with(rest, point) {
+    if is_spelled(rest, point) {
         let n = point.len();
         return n_more(n, fraction_exponent(&rest[n..]));
     }
@@ -80,7 +80,7 @@ fn point_fraction_exponent(rest: &[u8], point: &[u8]) -> Taken
 fn point_fraction(rest: &[u8], point: &[u8]) -> Taken
     ensures { λ r. ⌜ r ≡ literal (now (point .entry)) (digit0 done) (now (rest .entry)) ⌝ }
 {
-    if starts_with(rest, point) {
+    if is_spelled(rest, point) {
         let n = point.len();
         return n_more(n, fraction(&rest[n..]));
     }
@@ -135,7 +135,7 @@ fn unsigned_number(rest: &[u8]) -> Taken
 fn negative_number(rest: &[u8], sign: &[u8]) -> Taken
     ensures { λ r. ⌜ r ≡ literal (now (sign .entry)) unsigned (now (rest .entry)) ⌝ }
 {
-    if starts_with(rest, sign) {
+    if is_spelled(rest, sign) {
         let n = sign.len();
         return n_more(n, unsigned_number(&rest[n..]));
     }

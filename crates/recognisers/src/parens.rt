@@ -6,12 +6,11 @@ use crate::TokenKind;
 use crate::scan::caseless_word;
 use crate::scan::exactly;
 use crate::scan::first_of;
+use crate::scan::is_spelled_caseless;
 use crate::scan::n_more;
-use crate::scan::starts_with_caseless;
 use crate::scan::token_of;
 use unicode::Class;
 ghost use mathlib.Core.Path.{_≡_};
-ghost use Rattle.recognisers.specs.Text.{bytes};
 ghost use Rattle.recognisers.specs.Taking.{done, literal, caseless, blanks, endOfWord};
 ghost use Rattle.recognisers.specs.Parens.{inPostgreSql, getOpenParenToken, getCloseParenToken};
 
@@ -50,7 +49,7 @@ fn blanks_then_word(rest: &[u8], word: &[u8]) -> Taken
 fn end_case(rest: &[u8], end: &[u8], case: &[u8]) -> Taken
     ensures { λ r. ⌜ r ≡ caseless (now (end .entry)) (blanks (caseless (now (case .entry)) endOfWord)) (now (rest .entry)) ⌝ }
 {
-    if starts_with_caseless(rest, end) {
+    if is_spelled_caseless(rest, end) {
         let n = end.len();
         return n_more(n, blanks_then_word(&rest[n..], case));
     }

@@ -10,11 +10,11 @@ use crate::numbers::marked_digits;
 use crate::scan::at_least;
 use crate::scan::exactly;
 use crate::scan::first_of;
+use crate::scan::is_spelled;
 use crate::scan::n_more;
 use crate::scan::pair_stands_at;
 use crate::scan::stands_at;
 use crate::scan::starts_among;
-use crate::scan::starts_with;
 use crate::strings::placeholder_string_part;
 use unicode::Class;
 ghost use mathlib.Core.Path.{_≡_};
@@ -169,7 +169,7 @@ fn braced_text(rest: &[u8]) -> Taken
 fn braced_after(rest: &[u8], brace: &[u8]) -> Taken
     ensures { λ r. ⌜ r ≡ literal (now (brace .entry)) bracedText (now (rest .entry)) ⌝ }
 {
-    if starts_with(rest, brace) {
+    if is_spelled(rest, brace) {
         let n = brace.len();
         return n_more(n, braced_text(&rest[n..]));
     }

@@ -11,7 +11,6 @@ ghost use mathlib.Core.Bool.{_&&_};
 ghost use lib.ListN.{length, drop};
 ghost use Rattle.recognisers.specs.Taking.{taken, more, or, done, literal, caseless, typed, capital, isSpelled, endOfWord, isDigit, count, atLeast, contains, startsAmong, startsWith};
 ghost use Rattle.recognisers.specs.Pieces.{tokenOf, alt};
-ghost use Rattle.unicode.specs.Classes.{isWordCharacter};
 
 pub fn is_among(bytes: &[u8], b: u8) -> bool
     ensures { λ r. ⌜ r ≡ contains (now (bytes .entry)) b ⌝ }
@@ -26,7 +25,7 @@ pub fn is_among(bytes: &[u8], b: u8) -> bool
     false
 }
 
-pub fn starts_with(rest: &[u8], word: &[u8]) -> bool
+pub fn is_spelled(rest: &[u8], word: &[u8]) -> bool
     ensures { λ r. ⌜ r ≡ isSpelled typed (now (word .entry)) (now (rest .entry)) ⌝ }
 {
     if rest.len() < word.len() {
@@ -79,7 +78,7 @@ fn capital_is(b: u8, w: u8) -> bool
 }
 
 // The word is in capitals.
-pub fn starts_with_caseless(rest: &[u8], word: &[u8]) -> bool
+pub fn is_spelled_caseless(rest: &[u8], word: &[u8]) -> bool
     ensures { λ r. ⌜ r ≡ isSpelled capital (now (word .entry)) (now (rest .entry)) ⌝ }
 {
     if rest.len() < word.len() {
@@ -170,7 +169,7 @@ pub fn starts_among(rest: &[u8], marks: &[u8]) -> bool
 pub fn exactly(rest: &[u8], word: &[u8]) -> Taken
     ensures { λ r. ⌜ r ≡ literal (now (word .entry)) done (now (rest .entry)) ⌝ }
 {
-    if starts_with(rest, word) {
+    if is_spelled(rest, word) {
         return Taken::Bytes(word.len());
     }
     Taken::Fails
@@ -180,7 +179,7 @@ pub fn exactly(rest: &[u8], word: &[u8]) -> Taken
 pub fn caseless_word(rest: &[u8], word: &[u8]) -> Taken
     ensures { λ r. ⌜ r ≡ caseless (now (word .entry)) endOfWord (now (rest .entry)) ⌝ }
 {
-    if starts_with_caseless(rest, word) {
+    if is_spelled_caseless(rest, word) {
         let n = word.len();
         return n_more(n, end_of_word(&rest[n..]));
     }

@@ -5,9 +5,9 @@ use crate::Taken;
 use crate::TokenKind;
 use crate::scan::first_of;
 use crate::scan::is_among;
+use crate::scan::is_spelled;
 use crate::scan::n_more;
 use crate::scan::stands_at;
-use crate::scan::starts_with;
 use crate::scan::token_of;
 ghost use mathlib.Core.Path.{_≡_};
 ghost use mathlib.Core.Bool.{false, _&&_};
@@ -52,7 +52,7 @@ fn closed_by(rest: &[u8], desired: u8, escapes: &[u8]) -> Taken
 fn quoted(rest: &[u8], opener: &[u8], desired: u8, escapes: &[u8]) -> Taken
     ensures { λ r. ⌜ r ≡ literal (now (opener .entry)) (closedBy desired (now (escapes .entry))) (now (rest .entry)) ⌝ }
 {
-    if starts_with(rest, opener) {
+    if is_spelled(rest, opener) {
         let n = opener.len();
         return n_more(n, closed_by(&rest[n..], desired, escapes));
     }

@@ -1,10 +1,10 @@
 -- Laws that the proofs cite, and those of the Rust's own form of the definitions (Uc..).
-pub mod Walking
-pub mod Finding
-pub mod Groups
-pub mod Lengths
+pub mod PhraseWalk
+pub mod FirstEntry
+pub mod EntryTokens
+pub mod PhraseSizes
 pub mod PhraseBoundaries
-pub mod UcClasses
+pub mod UcBytes
 pub mod UcAhead
 pub mod UcFind
 pub mod UcWords

@@ -25,7 +25,7 @@ use Rattle.reserved.specs.Join.{joinPhrases}
 use Rattle.reserved.specs.NoIndent.{noIndentPhrases}
 use Rattle.reserved.specs.Plain.{plainTwoPhrases, plainOnePhrases, plainA, plainB, plainC, plainD, plainE, plainF, plainG, plainH, plainI, plainK, plainL, plainM, plainN, plainO, plainP, plainQ, plainR, plainS, plainT, plainU, plainV, plainW, plainY}
 use Rattle.reserved.specs.Reserved.{topLevelToken, newlineToken, getTopLevelReservedToken, getNewlineAfterReservedToken, getNewlineReservedToken, getJoinToken, getTopLevelReservedTokenNoIndent, getPlainReservedToken, mayBeReserved, getReservedWordToken}
-use Rattle.recognisers.proofs.Boundaries.{Leaves, Cuts, or-leaves, more-leaves, fails-leaves, one-cuts, capital-keeps, allAscii, done-cuts, end-of-word-cuts, blanks-cuts, Bounded, alt-bounded, token-bounded}
+use Rattle.recognisers.proofs.PieceBoundaries.{Leaves, Cuts, or-leaves, more-leaves, fails-leaves, one-cuts, capital-keeps, allAscii, done-cuts, end-of-word-cuts, blanks-cuts, Bounded, alt-bounded, token-bounded}
 
 walk-cuts : (words : List ℕ) → allAscii words ≡ true → (then : Part) → Cuts then → Cuts (walk words then)
 unfolding walk

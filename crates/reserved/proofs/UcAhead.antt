@@ -17,7 +17,8 @@ use Rattle.recognisers.specs.declared.Taken.the-variants.{Bytes, Fails}
 use Rattle.recognisers.specs.Taking.{Part, more, done, one, typed, spelled, literal, capital, blanks, endOfWord}
 use Rattle.reserved.specs.Phrases.{walk}
 use Rattle.reserved.specs.UcWords.{notWhitespace, trimStart, isEmpty, splitWhitespace, spaced, toAsciiUppercase}
-use Rattle.reserved.proofs.UcClasses.{isVisible, visible-alone, visible-first, capital-visible, white-no-word, space-first, other-no-space, end-not-white, end-no-word, letter-word, capital-other, continuation-stays, continuation-capital}
+use Rattle.unicode.proofs.ClassesApart.{white-no-word, end-not-white, end-no-word}
+use Rattle.reserved.proofs.UcBytes.{isVisible, visible-alone, visible-first, capital-visible, space-first, other-no-space, letter-word, capital-other, continuation-stays, continuation-capital}
 
 -- ---- the shape of a phrase
 

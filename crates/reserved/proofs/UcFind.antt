@@ -21,7 +21,7 @@ use Rattle.recognisers.specs.Taking.{taken, more, done, typed, isSpelled, capit
 use Rattle.recognisers.proofs.Spelling.{more-zero, more-more}
 use Rattle.reserved.specs.Phrases.{walk}
 use Rattle.reserved.specs.UcWords.{trimStart, toAsciiUppercase, find, lastWord, finalize}
-use Rattle.reserved.proofs.UcClasses.{isVisible, white-hidden, continuation-hidden}
+use Rattle.reserved.proofs.UcBytes.{isVisible, white-hidden, continuation-hidden}
 use Rattle.reserved.proofs.UcAhead.{begins, letter-yes, letter-no, letter-end, gap-yes, gap-no}
 
 -- ---- a part that took bytes
@@ -171,7 +171,7 @@ module _ (c : ℕ) (word : List ℕ) (v : isVisible c ≡ true) where
 -- ---- `find` in the text, by `find` in the phrase
 
 -- it was found, and ends at m
-record Found (t : Taken) (size m : ℕ) : Type 0 where
+record FoundEnd (t : Taken) (size m : ℕ) : Type 0 where
   place : ℕ
   is : t ≡ Bytes place
   ends : place + size ≡ m
@@ -194,7 +194,7 @@ module _ (c : ℕ) (word : List ℕ) (v : isVisible c ≡ true) (vs : allVisible
 
   -- n bytes of the text on, where the phrase's rest is found
   move : (n m : ℕ) (s t : List ℕ) (rest : ℕ) → find last (toAsciiUppercase s) ≡ more n (find last (toAsciiUppercase t)) → m ≡ n + rest
-      → Found (find last (toAsciiUppercase t)) (suc (length word)) rest → Found (find last (toAsciiUppercase s)) (suc (length word)) m
+      → FoundEnd (find last (toAsciiUppercase t)) (suc (length word)) rest → FoundEnd (find last (toAsciiUppercase s)) (suc (length word)) m
   move n m s t rest e sum f =
       record {
         place = n + f .place;
@@ -203,14 +203,14 @@ module _ (c : ℕ) (word : List ℕ) (v : isVisible c ≡ true) (vs : allVisible
       }
 
   find-walk : (words s : List ℕ) (m k : ℕ) → walk words done s ≡ Bytes m → find last words ≡ Bytes k → k + suc (length word) ≡ length words
-      → Found (find last (toAsciiUppercase s)) (suc (length word)) m
+      → FoundEnd (find last (toAsciiUppercase s)) (suc (length word)) m
   find-walk [] s m k e f l = absurd (let z : ⊥ = omega arith in z)
   find-walk (p ∷ words) s m k e f l = go (eqb p 32) refl s e (λ t n j. find-walk words t n j)
     where
       Rest : Type 0
-      Rest = (t : List ℕ) (n j : ℕ) → walk words done t ≡ Bytes n → find last words ≡ Bytes j → j + suc (length word) ≡ length words → Found (find last (toAsciiUppercase t)) (suc (length word)) n
+      Rest = (t : List ℕ) (n j : ℕ) → walk words done t ≡ Bytes n → find last words ≡ Bytes j → j + suc (length word) ≡ length words → FoundEnd (find last (toAsciiUppercase t)) (suc (length word)) n
 
-      letter : (b : ℕ) (s : List ℕ) → walk (p ∷ words) done (b ∷ s) ≡ Bytes m → Letter p words b s m → Rest → (t : Bool) → isSpelled typed last (p ∷ words) ≡ t → Found (find last (toAsciiUppercase (b ∷ s))) (suc (length word)) m
+      letter : (b : ℕ) (s : List ℕ) → walk (p ∷ words) done (b ∷ s) ≡ Bytes m → Letter p words b s m → Rest → (t : Bool) → isSpelled typed last (p ∷ words) ≡ t → FoundEnd (find last (toAsciiUppercase (b ∷ s))) (suc (length word)) m
       letter b s w a ih true i =
           let z : Bytes 0 ≡ Bytes k = sym (here p words i) ∙ f in
           let k0 : 0 ≡ k = cc in
@@ -224,7 +224,7 @@ module _ (c : ℕ) (word : List ℕ) (v : isVisible c ≡ true) (vs : allVisible
           move 1 m (b ∷ s) s (a .rest .left) (later (capital b) (toAsciiUppercase s) there) (a .rest .sum)
           (ih s (a .rest .left) (j .left) (a .rest .is) (j .is) (omega arith))
 
-      space : (s : List ℕ) → walk (32 ∷ words) done s ≡ Bytes m → find last (32 ∷ words) ≡ Bytes k → Rest → Found (find last (toAsciiUppercase s)) (suc (length word)) m
+      space : (s : List ℕ) → walk (32 ∷ words) done s ≡ Bytes m → find last (32 ∷ words) ≡ Bytes k → Rest → FoundEnd (find last (toAsciiUppercase s)) (suc (length word)) m
       space s w g ih =
           let a = gap-of words s m w in
           let j = left-of 1 (find last words) k (sym (space-later words) ∙ g) in
@@ -232,7 +232,7 @@ module _ (c : ℕ) (word : List ℕ) (v : isVisible c ≡ true) (vs : allVisible
           move (run isWhitespace 0 s) m s (trimStart s) (a .rest .left) (trim-skips c word v s) (a .rest .sum)
           (ih (trimStart s) (a .rest .left) (j .left) (a .rest .is) (j .is) (omega arith))
 
-      go : (t : Bool) → eqb p 32 ≡ t → (s : List ℕ) → walk (p ∷ words) done s ≡ Bytes m → Rest → Found (find last (toAsciiUppercase s)) (suc (length word)) m
+      go : (t : Bool) → eqb p 32 ≡ t → (s : List ℕ) → walk (p ∷ words) done s ≡ Bytes m → Rest → FoundEnd (find last (toAsciiUppercase s)) (suc (length word)) m
       go true q s w ih = let r = eqb-true p 32 q in space s (rw r at w) (rw r at f) ih
       go false q [] w ih = no-letter-at-end p words m q w
       go false q (b ∷ s) w ih = letter b s w (letter-of p words b s m q w) ih (isSpelled typed last (p ∷ words)) refl

@@ -18,7 +18,8 @@ use Rattle.reserved.specs.TopLevel.{topLevelPhrases}
 use Rattle.reserved.specs.UcWords.{getUcWords, finalized, firstByUcWords}
 use Rattle.reserved.specs.UcChoices.{topLevelByUcWords}
 use Rattle.reserved.specs.UcReserved.{getReservedWordTokenByUcWords}
-use Rattle.reserved.proofs.UcClasses.{isVisible, within-low, within-high, within-is, capital-visible, visible-first}
+use Rattle.unicode.proofs.Within.{within-low, within-high, within-is}
+use Rattle.reserved.proofs.UcBytes.{isVisible, capital-visible, visible-first}
 use Rattle.reserved.proofs.UcArms.{top-level-arms}
 use Rattle.reserved.proofs.UcGroups.{top-level-agrees, newline-after-agrees, newline-agrees, join-agrees, no-indent-agrees, plain-two-agrees, plain-one-agrees}
 

@@ -19,7 +19,7 @@ use Rattle.recognisers.specs.Taking.{Part, more, done, one, typed, isSpelled, s
 use Rattle.recognisers.proofs.Spelling.{spelled-is}
 use Rattle.reserved.specs.Phrases.{walk, after, optional, phrase, phraseIfExists}
 use Rattle.reserved.specs.UcWords.{trimStart, splitWhitespace, getUcWords, lastWord, finalize, opt, ucPhrase, finalized, phraseByUcWords}
-use Rattle.reserved.proofs.Walking.{andThen, walk-step, walk-and}
+use Rattle.reserved.proofs.PhraseWalk.{andThen, walk-step, walk-and}
 use Rattle.reserved.proofs.UcAhead.{begins, shaped, ahead, ahead-end, stands, done-alike, end-of-word-alike, stands-alike, letter-shape, no-gap}
 use Rattle.reserved.proofs.UcFind.{not-fails, left-of, letter-of, no-letter-at-end, endsItself, finalize-walk}
 

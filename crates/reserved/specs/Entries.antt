@@ -14,8 +14,8 @@ use Rattle.recognisers.specs.declared.Recognised.the-variants as R
 use Rattle.recognisers.specs.Pieces.{tokenOf}
 use Rattle.reserved.specs.declared.TopLevel.{TopLevel}
 use Rattle.reserved.specs.Reserved.{topLevelToken, newlineToken}
-use Rattle.reserved.specs.declared.Found.{Found}
-use Rattle.reserved.specs.declared.Found.the-variants.{Entry, Nothing}
+use Rattle.reserved.specs.declared.FoundPhrase.{FoundPhrase}
+use Rattle.reserved.specs.declared.FoundPhrase.the-variants.{Entry, Nothing}
 use Rattle.reserved.specs.Phrases.{Phrase, phrase, phraseIfExists, walk, optional}
 use Rattle.reserved.specs.TopLevel.{topLevelPhrases}
 use Rattle.reserved.specs.NewlineAfter.{newlineAfterPhrases}
@@ -49,12 +49,12 @@ unfoldable pub entryEnd : ℕ → List ℕ → Part
 entryEnd group words s = walk words (ending (eqb group (byte "D"))) s
 
 -- the entry where it stands in the text, else another answer
-abbrev pub chosen : ℕ → Taken → Found → Found
+abbrev pub chosen : ℕ → Taken → FoundPhrase → FoundPhrase
 chosen group (Bytes n) other = Entry group n
 chosen group Fails other = other
 
 -- the first entry that stands at the start of the text
-unfoldable pub findEntry : List (ℕ × List ℕ) → List ℕ → Found
+unfoldable pub findEntry : List (ℕ × List ℕ) → List ℕ → FoundPhrase
 findEntry [] s = Nothing
 findEntry (entry ∷ entries) s = chosen (entry .0) (entryEnd (entry .0) (entry .1) s) (findEntry entries s)
 
@@ -71,7 +71,7 @@ entriesOf letter (entry ∷ entries) =
     cond (eqb (getD (entry .1) 0 0) letter) (entry ∷ entriesOf letter entries) (entriesOf letter entries)
 
 -- the first entry of a table, where its first `passed` bytes belong to an entry that has been tried
-unfoldable pub tableFind : ℕ → List ℕ → List ℕ → Found
+unfoldable pub tableFind : ℕ → List ℕ → List ℕ → FoundPhrase
 tableFind passed [] s = Nothing
 tableFind (suc passed) (b ∷ table) s = tableFind passed table s
 tableFind zero (group ∷ []) s = Nothing
@@ -80,7 +80,7 @@ tableFind zero (group ∷ n ∷ table) s =
 
 -- ---- the token that an entry makes
 
-abbrev pub tokenFor : Bool → TopLevel → List ℕ → Found → Recognised
+abbrev pub tokenFor : Bool → TopLevel → List ℕ → FoundPhrase → Recognised
 tokenFor afterBetween last s Nothing = R.Nothing
 tokenFor afterBetween last s (Entry group n) =
     cond (eqb group (byte "T") || eqb group (byte "D")) (topLevelToken last s (Bytes n))

@@ -1,5 +1,4 @@
 -- The phrases of `get_join_token`.
-use Prim.Native.Nat.{ℕ}
 use mathlib.Core.List.{List, [], _∷_}
 use Rattle.recognisers.specs.Text.{bytes}
 use Rattle.reserved.specs.Phrases.{Phrase, phrase}

@@ -1,5 +1,4 @@
 -- The phrases of `get_newline_reserved_token`: the operators, then the actions of ALTER TABLE.
-use Prim.Native.Nat.{ℕ}
 use mathlib.Core.List.{List, [], _∷_}
 use Rattle.recognisers.specs.Text.{bytes}
 use Rattle.reserved.specs.Phrases.{Phrase, phrase}

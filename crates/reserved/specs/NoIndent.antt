@@ -1,5 +1,4 @@
 -- The phrases of `get_top_level_reserved_token_no_indent`.
-use Prim.Native.Nat.{ℕ}
 use mathlib.Core.List.{List, [], _∷_}
 use Rattle.recognisers.specs.Text.{bytes}
 use Rattle.reserved.specs.Phrases.{Phrase, phrase}

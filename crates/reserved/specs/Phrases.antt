@@ -1,7 +1,7 @@
 -- Reserved phrases, compared with the text word by word: `terminated(PHRASE, end_of_word)` on `get_uc_words`, and `finalize`,
 -- as a walk over the words in the text.
 use Prim.Native.Nat.{ℕ}
-use mathlib.Core.Bool.{Bool, cond}
+use mathlib.Core.Bool.{cond}
 use mathlib.Core.List.{List, [], _∷_, _++_}
 use lib.Dec.{eqb}
 use lib.ListN.{drop}

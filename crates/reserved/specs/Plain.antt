@@ -1,5 +1,4 @@
 -- The phrases of `get_plain_reserved_token`: two words, then one. What the Rust lists twice stands once.
-use Prim.Native.Nat.{ℕ}
 use mathlib.Core.List.{List, [], _∷_, _++_}
 use Rattle.recognisers.specs.Text.{bytes}
 use Rattle.reserved.specs.Phrases.{Phrase, phrase}

@@ -1,8 +1,7 @@
 -- `get_reserved_word_token` and the six recognisers that it tries in turn.
 use Prim.Native.Nat.{ℕ}
 use mathlib.Core.Bool.{Bool, true, false, cond, not, _&&_, _||_}
-use mathlib.Core.List.{List, [], _∷_, _++_}
-use lib.Dec.{eqb}
+use mathlib.Core.List.{List}
 use lib.ListN.{length, take, getD}
 use Rattle.recognisers.specs.declared.Taken.{Taken}
 use Rattle.recognisers.specs.declared.Taken.the-variants.{Bytes, Fails}
@@ -18,7 +17,7 @@ use Rattle.recognisers.specs.Pieces.{piece, tokenOf, alt}
 use Rattle.unicode.specs.Ranges.{within}
 use Rattle.reserved.specs.declared.TopLevel.{TopLevel}
 use Rattle.reserved.specs.declared.TopLevel.the-variants.{Select, Update, MergeInto, DeleteFrom, Other}
-use Rattle.reserved.specs.Phrases.{Phrase, firstPhrase}
+use Rattle.reserved.specs.Phrases.{firstPhrase}
 use Rattle.reserved.specs.TopLevel.{topLevelPhrases}
 use Rattle.reserved.specs.NewlineAfter.{newlineAfterPhrases}
 use Rattle.reserved.specs.Newline.{newlinePhrases}

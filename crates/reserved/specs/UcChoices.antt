@@ -1,5 +1,5 @@
 -- The alternatives of `get_top_level_reserved_token` nested as the Rust nests them, on the string that `get_uc_words` made.
--- There is no way back into `alt` and `opt`. Written out phrase by phrase they are `topLevelPhrases`: proofs/UcChoices.antt.
+-- There is no way back into `alt` and `opt`. Written out phrase by phrase they are `topLevelPhrases`: proofs/UcArms.antt.
 use Prim.Native.Nat.{ℕ}
 use mathlib.Core.List.{List, [], _∷_}
 use lib.ListN.{drop}

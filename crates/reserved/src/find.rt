@@ -1,5 +1,5 @@
 // A phrase at the start of a rest, and the first phrase of a table.
-use crate::Found;
+use crate::FoundPhrase;
 use recognisers::Taken;
 use recognisers::capital_of;
 use recognisers::end_of_word;
@@ -7,10 +7,6 @@ use recognisers::n_more;
 use unicode::Class;
 ghost use mathlib.Core.Path.{_≡_};
 ghost use mathlib.Core.List.{[], _∷_};
-ghost use mathlib.Core.Bool.{true};
-ghost use lib.Dec.{eqb};
-ghost use Prim.Native.Nat.{_≤_};
-ghost use lib.ListN.{length, drop};
 ghost use Rattle.recognisers.specs.Taking.{done};
 ghost use Rattle.reserved.specs.Phrases.{walk};
 ghost use Rattle.reserved.specs.Entries.{ifExists, ending, entryEnd, tableFind};
@@ -86,7 +82,7 @@ fn wide(b: u8) -> usize
 }
 
 // The first entry of a table.
-pub fn find_in(table: &[u8], rest: &[u8]) -> Found
+pub fn find_in(table: &[u8], rest: &[u8]) -> FoundPhrase
     ensures { λ r. ⌜ r ≡ tableFind 0 (now (table .entry)) (now (rest .entry)) ⌝ }
 {
     let mut at = 0;
@@ -95,16 +91,16 @@ pub fn find_in(table: &[u8], rest: &[u8]) -> Found
         let start = at + 2;
         let n = wide(table[at + 1]);
         if table.len() - start < n {
-            return Found::Nothing;
+            return FoundPhrase::Nothing;
         }
         let end = start + n;
         if let Taken::Bytes(len) = entry_end(rest, group, &table[start..end]) {
-            return Found::Entry {
+            return FoundPhrase::Entry {
                 group: group,
                 len: len,
             };
         }
         at = end;
     }
-    Found::Nothing
+    FoundPhrase::Nothing
 }

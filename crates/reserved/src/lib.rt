@@ -15,7 +15,7 @@ pub enum TopLevel {
 }
 
 // The phrase that stands at the start of a rest: its group's letter and how many bytes it takes.
-pub enum Found {
+pub enum FoundPhrase {
     Entry { group: u8, len: usize },
     Nothing,
 }

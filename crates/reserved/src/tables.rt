@@ -1,7 +1,7 @@
 // The reserved phrases by their first letter, in the order in which they are tried: for each its group, the length of its
 // words, and the words. Groups: T top level, D top level with IF EXISTS behind it or not, A newline after, N newline, J join,
 // I top level without indent, R reserved.
-use crate::Found;
+use crate::FoundPhrase;
 use crate::find::find_in;
 use recognisers::capital_of;
 ghost use mathlib.Core.Path.{_≡_};
@@ -76,11 +76,11 @@ const X_PHRASES: [u8; 5] = *b"N\x03XOR";
 const Y_PHRASES: [u8; 12] = *b"R\x0AYEAR_MONTH";
 
 // The first phrase that stands at the start of the rest.
-pub fn find_phrase(rest: &[u8]) -> Found
+pub fn find_phrase(rest: &[u8]) -> FoundPhrase
     ensures { λ r. ⌜ r ≡ findEntry entries (now (rest .entry)) ⌝ }
 {
     if rest.len() == 0 {
-        return Found::Nothing;
+        return FoundPhrase::Nothing;
     }
     let letter = capital_of(rest[0]);
     match letter {
@@ -188,6 +188,6 @@ pub fn find_phrase(rest: &[u8]) -> Found
             let table = Y_PHRASES;
             find_in(&table, rest)
         }
-        0..=35 | 37..=64 | 90..=255 => Found::Nothing,
+        0..=35 | 37..=64 | 90..=255 => FoundPhrase::Nothing,
     }
 }

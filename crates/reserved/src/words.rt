@@ -1,5 +1,5 @@
 // `get_reserved_word_token`, and what EXCEPT, SET, USING and AND ask of earlier tokens.
-use crate::Found;
+use crate::FoundPhrase;
 use crate::TopLevel;
 use crate::tables::find_phrase;
 use recognisers::Key;
@@ -9,8 +9,8 @@ use recognisers::Taken;
 use recognisers::TokenKind;
 use recognisers::capital_of;
 use recognisers::is_exactly;
+use recognisers::is_spelled;
 use recognisers::stands_at;
-use recognisers::starts_with;
 use recognisers::token_of;
 ghost use mathlib.Core.Path.{_≡_};
 ghost use mathlib.Core.Bool.{not, _&&_, _||_};
@@ -97,7 +97,7 @@ fn top_level_kind(value: &[u8], last: TopLevel) -> TokenKind
 fn has_short_alias(value: &[u8]) -> bool
     ensures { λ r. ⌜ r ≡ (isSpelled typed (bytes "CREATE") (now (value .entry)) || isSpelled typed (bytes "SELECT") (now (value .entry))) ⌝ }
 {
-    starts_with(value, b"CREATE") || starts_with(value, b"SELECT")
+    is_spelled(value, b"CREATE") || is_spelled(value, b"SELECT")
 }
 
 fn alias_length(value: &[u8]) -> usize
@@ -142,7 +142,7 @@ fn newline_token(rest: &[u8], n: usize, after_between: bool) -> Recognised
 
 fn token_for(rest: &[u8], group: u8, n: usize, after_between: bool, last: TopLevel) -> Recognised
     requires { ⌜ n ≤ length (now rest) ⌝ }
-    ensures { λ r. ⌜ r ≡ tokenFor «after_between» last (now (rest .entry)) (Found.Entry group n) ⌝ }
+    ensures { λ r. ⌜ r ≡ tokenFor «after_between» last (now (rest .entry)) (FoundPhrase.Entry group n) ⌝ }
 {
     match group {
         b'T' | b'D' => top_level_token(rest, n, last),
@@ -180,8 +180,8 @@ fn reserved_token(rest: &[u8], after_between: bool, last: TopLevel) -> Recognise
     ensures { λ r. ⌜ r ≡ tokenFor «after_between» last (now (rest .entry)) (findEntry entries (now (rest .entry))) ⌝ }
 {
     match find_phrase(rest) {
-        Found::Entry { group, len } => token_for(rest, group, len, after_between, last),
-        Found::Nothing => Recognised::Nothing,
+        FoundPhrase::Entry { group, len } => token_for(rest, group, len, after_between, last),
+        FoundPhrase::Nothing => Recognised::Nothing,
     }
 }
 

@@ -17,7 +17,8 @@ use Rattle.recognisers.specs.declared.Taken.the-variants.{Bytes, Fails}
 use Rattle.recognisers.specs.Taking.{Part, or, done, one, spelled, typed, blanks, endOfWord, digit0, digit1, count, isDigit, contains}
 use Rattle.recognisers.specs.Taking as T
 use Rattle.recognisers.proofs.Spelling.{more-zero, more-more}
-use Rattle.tight.proofs.Whitespace.{isBlank, none-blank, blankByte, blank-no-word, zero-no-word, blank-whole, not-byte, range-quiet}
+use Rattle.unicode.proofs.ClassesApart.{white-no-word, zero-no-word}
+use Rattle.tight.proofs.Whitespace.{isBlank, none-blank, blankByte, blank-whole, not-byte, range-quiet}
 use Rattle.tight.proofs.Sim.{Conts, last, more, blank, Separator, space, newline, Ends, at-end, at-separator, Sim, nil, keep, same, swap, lose, Blankish, ended, starts, blankish, separator-blank, separator-ish, ends-ish, class-sim, blank-sim}
 
 -- both fail, or both take something; and where the first takes n bytes, so does the second
@@ -180,7 +181,7 @@ digit1-law then l n x x′ s =
 
 pub end-of-word-law : Law endOfWord
 unfolding endOfWord
-end-of-word-law n x x′ s = rw (class-sim isWordCharacter zero-no-word blank-no-word s) (same-refl n _)
+end-of-word-law n x x′ s = rw (class-sim isWordCharacter zero-no-word white-no-word s) (same-refl n _)
 
 -- ---- whitespace and what follows it
 

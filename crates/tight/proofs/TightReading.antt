@@ -18,12 +18,12 @@ use Rattle.recognisers.specs.declared.Recognised.the-variants as R
 use Rattle.recognisers.specs.declared.TokenKind.{TokenKind}
 use Rattle.recognisers.specs.declared.TokenKind.the-variants as K
 use Rattle.recognisers.specs.Kinds.{isKind}
-use Rattle.recognisers.proofs.Sizes.{KeyFits, Sized, Sound}
+use Rattle.recognisers.proofs.PieceSizes.{KeyFits, Sized, Sound}
 use Rattle.tokenizer.specs.declared.Memory.{Memory}
 use Rattle.calls.specs.declared.Settings.{Settings}
 use Rattle.tokenizer.specs.NextToken.{nextPiece}
 use Rattle.tokenizer.specs.Tokens.{givenOut}
-use Rattle.tokenizer.proofs.PieceSizes.{piece-sized}
+use Rattle.tokenizer.proofs.NextPieceSizes.{piece-sized}
 use Rattle.tokenizer.proofs.EndToEnd.{Recognises, piece-recognised}
 use Rattle.tight.specs.declared.Gap.the-variants.{Nothing}
 use Rattle.tight.specs.TightText.{gapAfter, gapBytes}

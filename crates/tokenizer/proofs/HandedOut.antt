@@ -13,7 +13,7 @@ use Rattle.recognisers.specs.declared.Recognised.the-variants as R
 use Rattle.recognisers.specs.declared.TokenKind.{TokenKind}
 use Rattle.recognisers.specs.declared.TokenKind.the-variants
 use Rattle.recognisers.specs.Kinds.{kindNumber}
-use Rattle.recognisers.proofs.Sizes.{KeyFits, Sized}
+use Rattle.recognisers.proofs.PieceSizes.{KeyFits, Sized}
 use Rattle.tokenizer.specs.declared.Memory.{Memory}
 use Rattle.calls.specs.declared.Settings.{Settings}
 use Rattle.calls.specs.Checks.{longest}
@@ -22,7 +22,7 @@ use Rattle.tokenizer.specs.NextToken.{nextPiece}
 use Rattle.tokenizer.specs.Records.{keyWords}
 use Rattle.tokenizer.specs.Tokens.{givenOut, placed, tokens}
 use Rattle.tokenizer.proofs.EachToken.{Each, each-token}
-use Rattle.tokenizer.proofs.PieceSizes.{piece-sized}
+use Rattle.tokenizer.proofs.NextPieceSizes.{piece-sized}
 
 never-join : (joins : Bool) (kind : TokenKind) → kindNumber (givenOut joins kind) < 16
 unfolding givenOut

@@ -1,11 +1,11 @@
 -- The ASCII table, and what its numbers say of the classes: tests that the checker computes over the 128 characters.
 -- Assumes nothing.
-use Prim.Native.Nat.{ℕ, zero, suc, _+_, _≤_, _<_}
+use Prim.Native.Nat.{ℕ, zero, suc, _+_, _<_}
 use native.Mathlib.Nat.{add-zero, zero-add, add-suc, suc-add, eq-or-lt-of-le, le-of-suc-le-suc, not-suc-le-zero}
 use mathlib.Core.Path.{_≡_, refl, sym, _∙_}
 use mathlib.Core.Logic.{⊎-elim}
-use mathlib.Core.List.{List, [], _∷_}
-use mathlib.Core.Bool.{Bool, true, false, _&&_, _||_, Bool·beq, or-assoc, false≢true, and-eq-true-iff}
+use mathlib.Core.List.{List}
+use mathlib.Core.Bool.{Bool, true, false, _&&_, _||_, Bool·beq, or-assoc, and-eq-true-iff}
 use lib.ListN.{getD}
 use lib.Dec.{leb, eqb}
 use Rattle.unicode.specs.Ranges.{within, inRanges}

@@ -1,18 +1,18 @@
 -- The loop that reads a character gathers its continuation bytes.
 -- Assumes nothing.
-use Prim.Native.Nat.{ℕ, zero, suc, _+_, _-_, _*_, _%_, _^_, _≤_, _<_, zero-le, suc-le-suc}
-use native.Mathlib.Nat.{le-refl, le-trans, not-suc-le-zero, add-zero, zero-add, add-suc, suc-add, add-comm, pow-suc, pow-le-pow-right}
+use Prim.Native.Nat.{ℕ, suc, _+_, _-_, _*_, _%_, _^_, _≤_, _<_, zero-le, suc-le-suc}
+use native.Mathlib.Nat.{le-trans, not-suc-le-zero, add-zero, zero-add, add-suc, suc-add, add-comm, pow-suc, pow-le-pow-right}
 use native.Mathlib.Numerals.{add-one}
 use native.Mathlib.Omega.{arith}
-use mathlib.Core.Path.{_≡_, refl, sym, ap, _∙_}
+use mathlib.Core.Path.{_≡_, refl, sym, _∙_}
 use mathlib.Core.List.{List, [], _∷_, _++_}
 use mathlib.Core.Bool.{Bool, true, false, cond}
 use lib.ListN.{length, drop, take, getD, drop-of-length-le, length-drop}
-use lib.Seq.{drop-cons, take-suc, getD-drop, take-all}
-use lib.Dec.{ltb, eqb}
+use lib.Seq.{drop-cons, take-suc, getD-drop}
+use lib.Dec.{ltb}
 use mir.Syntax.{w8, w32}
 use mir.Val.{Fits}
-use borrow.Author.Tests.{lt-ltb, le-ltb, eq-eqb, ne-eqb, ltb-true, ltb-false}
+use borrow.Author.Tests.{eq-eqb, ne-eqb, ltb-true}
 use Rattle.unicode.specs.declared.Character.{Character}
 use Rattle.unicode.specs.Character.{isContinuation, continuations, continued, firstBits, withBits, codePoint, characterLength, character}
 

@@ -1,14 +1,17 @@
 -- Laws that the proofs cite.
 pub mod Search
-pub mod Parts
+pub mod TableParts
 pub mod Ordered
-pub mod Blocks
-pub mod Sequences
-pub mod Validation
+pub mod AsciiBlocks
+pub mod SequenceRows
+pub mod FirstIllFormed
 pub mod AsciiTable
 pub mod Decoding
-pub mod Either
-pub mod Characters
-pub mod Cuts
-pub mod Replacing
+pub mod ShortCircuit
+pub mod Within
+pub mod ClassesApart
+pub mod Rests
+pub mod WellFormedSteps
+pub mod WellFormedCuts
+pub mod ReplacedEnds
 pub mod RunLaws

@@ -1,17 +1,16 @@
 -- A run goes character by character.
 -- Assumes nothing.
 use Prim.Native.Nat.{ℕ, zero, suc, _+_, _-_, _^_, _≤_, _<_, zero-le, suc-le-suc}
-use native.Mathlib.Nat.{le-refl, le-trans, le-of-suc-le-suc, not-suc-le-zero, add-zero, zero-add, suc-add, add-assoc}
+use native.Mathlib.Nat.{le-of-suc-le-suc, not-suc-le-zero, add-zero, zero-add, suc-add, add-assoc}
 use native.Mathlib.Omega.{arith}
 use mathlib.Core.Path.{_≡_, refl, sym, ap, _∙_}
 use mathlib.Core.List.{List, [], _∷_}
 use mathlib.Core.Bool.{Bool, true, false, cond}
 use lib.ListN.{length, drop, getD, drop-of-length-le, length-drop}
 use lib.Seq.{drop-cons, drop-drop}
-use lib.Dec.{ltb, eqb}
 use mir.Syntax.{w64}
 use mir.Val.{Fits}
-use borrow.Author.Tests.{lt-ltb, eq-eqb}
+use borrow.Author.Tests.{lt-ltb}
 use Rattle.unicode.specs.declared.Character.{Character}
 use Rattle.unicode.specs.Character.{isContinuation, continuations, continued, firstBits, withBits, codePoint, characterLength, character}
 use Rattle.unicode.specs.declared.Class.{Class}
@@ -49,11 +48,6 @@ module _ (class : Class) where
   run-step [] h = absurd (not-suc-le-zero h)
   run-step (b ∷ s) h =
       rw (run-pass (continued (continuations b) s) s (continued-inside (continuations b) s), suc-add (continued (continuations b) s) (run (inClass class) 0 (drop (continued (continuations b) s) s)))
-
-  pub run-none : (s : List ℕ) → length s ≡ 0 → run (inClass class) 0 s ≡ 0
-  unfolding run
-  run-none [] h = refl
-  run-none (b ∷ s) h = absurd (let z : ⊥ = omega arith in z)
 
   pub run-inside : (passed : ℕ) (s : List ℕ) → run (inClass class) passed s ≤ length s
   unfolding run
@@ -143,6 +137,9 @@ ascii-length s i h l = rw (drop-cons s i 0 h, lt-ltb (getD s i 0) 0xC0 (omega ar
 pub ascii-code : (s : List ℕ) (i : ℕ) → i < length s → getD s i 0 < 128 → codePoint (drop i s) ≡ getD s i 0
 unfolding codePoint continuations continued firstBits withBits
 ascii-code s i h l = rw (drop-cons s i 0 h, lt-ltb (getD s i 0) 0xC0 (omega arith), lt-ltb (getD s i 0) 0x80 l)
+
+pub ascii-first : (b : ℕ) (s : List ℕ) → b < 128 → codePoint (b ∷ s) ≡ b
+ascii-first b s l = ascii-code (b ∷ s) 0 (suc-le-suc zero-le) l
 
 -- as `step` uses them: r is what a class says of the character at i
 module _ (class : Class) (s : List ℕ) (i : ℕ) (h : i < length s) where

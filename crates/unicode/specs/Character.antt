@@ -1,5 +1,5 @@
 -- The character at the start of some bytes. On a well-formed text it is the scalar value and the length of the sequence
--- there (proofs/Characters.antt). On any other bytes it is still one byte at least, and passes no byte that is no
+-- there (proofs/WellFormedSteps.antt). On any other bytes it is still one byte at least, and passes no byte that is no
 -- continuation byte; its code point is then 0, which is in no class.
 use Prim.Native.Nat.{ℕ, zero, suc, _+_, _-_, _*_, _%_}
 use mathlib.Core.Bool.{Bool, cond}

@@ -1,6 +1,6 @@
 -- The classes that src/tokenizer.rs asks of a character, of any code point.
 use Prim.Native.Nat.{ℕ}
-use mathlib.Core.Bool.{Bool, cond, _||_}
+use mathlib.Core.Bool.{Bool, _||_}
 use lib.Dec.{eqb}
 use Rattle.unicode.specs.Ranges.{inRanges}
 use Rattle.unicode.specs.WhiteSpace.{whiteSpace}

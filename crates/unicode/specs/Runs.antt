@@ -1,6 +1,6 @@
 -- Runs of characters of one class.
 use Prim.Native.Nat.{ℕ, zero, suc}
-use mathlib.Core.Bool.{Bool, true, false, cond}
+use mathlib.Core.Bool.{Bool, cond}
 use mathlib.Core.List.{List, [], _∷_}
 use Rattle.unicode.specs.declared.Class.{Class}
 use Rattle.unicode.specs.declared.Class.the-variants.{Whitespace, Word, PlaceholderName}

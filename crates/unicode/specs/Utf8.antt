@@ -23,15 +23,15 @@ table-3-7 =
     ∷ []
 
 -- a sequence of the row stands at the start of the bytes
-unfoldable pub startsWith : List (ℕ × ℕ) → List ℕ → Bool
-startsWith [] bytes = true
-startsWith (range ∷ row) [] = false
-startsWith (range ∷ row) (b ∷ bytes) = within (range .0) (range .1) b && startsWith row bytes
+unfoldable pub fitsRow : List (ℕ × ℕ) → List ℕ → Bool
+fitsRow [] bytes = true
+fitsRow (range ∷ row) [] = false
+fitsRow (range ∷ row) (b ∷ bytes) = within (range .0) (range .1) b && fitsRow row bytes
 
 -- the length of the sequence at the start of the bytes, by the first row that has it; 0 where no row does
 unfoldable pub sequenceIn : List (List (ℕ × ℕ)) → List ℕ → ℕ
 sequenceIn [] bytes = 0
-sequenceIn (row ∷ rows) bytes = cond (startsWith row bytes) (length row) (sequenceIn rows bytes)
+sequenceIn (row ∷ rows) bytes = cond (fitsRow row bytes) (length row) (sequenceIn rows bytes)
 
 unfoldable pub sequenceLength : List ℕ → ℕ
 sequenceLength bytes = sequenceIn table-3-7 bytes

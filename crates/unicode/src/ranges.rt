@@ -1,8 +1,7 @@
 // Lookup in ranges that are laid out as their ends.
 ghost use mathlib.Core.Path.{_≡_};
 ghost use mathlib.Core.Bool.{true};
-ghost use Prim.Native.Nat.{_+_, _≤_};
-ghost use lib.ListN.{length};
+ghost use Prim.Native.Nat.{_+_};
 ghost use Rattle.unicode.specs.Ranges.{inEnds, ascending, EndsUpTo};
 
 // How many of the ends are at most c.

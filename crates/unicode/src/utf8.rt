@@ -6,7 +6,7 @@ ghost use mathlib.Core.List.{[], _∷_};
 ghost use Prim.Native.Nat.{_+_, _≤_};
 ghost use lib.ListN.{length, drop};
 ghost use Rattle.unicode.specs.Blocks.{asciiRun, allAscii, AsciiUpTo};
-ghost use Rattle.unicode.specs.Utf8.{startsWith, sequenceLength, firstIllFormed};
+ghost use Rattle.unicode.specs.Utf8.{fitsRow, sequenceLength, firstIllFormed};
 
 // Four bytes from i on are ASCII.
 fn four_ascii(bytes: &[u8], i: usize) -> bool
@@ -59,7 +59,7 @@ fn ascii_run(bytes: &[u8]) -> usize
 
 // The byte at i is there and lies from low to high.
 fn byte_within(bytes: &[u8], i: usize, low: u8, high: u8) -> bool
-    ensures { λ r. ⌜ r ≡ startsWith ((low, high) ∷ []) (drop i (now (bytes .entry))) ⌝ }
+    ensures { λ r. ⌜ r ≡ fitsRow ((low, high) ∷ []) (drop i (now (bytes .entry))) ⌝ }
 {
     if i < bytes.len() {
         let b = bytes[i];
@@ -70,7 +70,7 @@ fn byte_within(bytes: &[u8], i: usize, low: u8, high: u8) -> bool
 
 // The lengths of sequences whose second byte lies from low to high, 0 where the bytes have none.
 fn two_bytes(bytes: &[u8], low: u8, high: u8) -> usize
-    ensures { λ r. ⌜ r ≡ cond (startsWith ((low, high) ∷ []) (drop 1 (now (bytes .entry)))) 2 0 ⌝ }
+    ensures { λ r. ⌜ r ≡ cond (fitsRow ((low, high) ∷ []) (drop 1 (now (bytes .entry)))) 2 0 ⌝ }
 {
     if byte_within(bytes, 1, low, high) {
         2
@@ -80,7 +80,7 @@ fn two_bytes(bytes: &[u8], low: u8, high: u8) -> usize
 }
 
 fn three_bytes(bytes: &[u8], low: u8, high: u8) -> usize
-    ensures { λ r. ⌜ r ≡ cond (startsWith ((low, high) ∷ (0x80, 0xBF) ∷ []) (drop 1 (now (bytes .entry)))) 3 0 ⌝ }
+    ensures { λ r. ⌜ r ≡ cond (fitsRow ((low, high) ∷ (0x80, 0xBF) ∷ []) (drop 1 (now (bytes .entry)))) 3 0 ⌝ }
 {
     if byte_within(bytes, 1, low, high) {
         if byte_within(bytes, 2, 0x80, 0xBF) {
@@ -91,7 +91,7 @@ fn three_bytes(bytes: &[u8], low: u8, high: u8) -> usize
 }
 
 fn four_bytes(bytes: &[u8], low: u8, high: u8) -> usize
-    ensures { λ r. ⌜ r ≡ cond (startsWith ((low, high) ∷ (0x80, 0xBF) ∷ (0x80, 0xBF) ∷ []) (drop 1 (now (bytes .entry)))) 4 0 ⌝ }
+    ensures { λ r. ⌜ r ≡ cond (fitsRow ((low, high) ∷ (0x80, 0xBF) ∷ (0x80, 0xBF) ∷ []) (drop 1 (now (bytes .entry)))) 4 0 ⌝ }
 {
     if byte_within(bytes, 1, low, high) {
         if byte_within(bytes, 2, 0x80, 0xBF) {

@@ -2,13 +2,13 @@ use borrow.Author.Needs.{needs}
 use Rattle.recognisers.specs.Taking.{typed}
 use Rattle.recognisers.specs.Comment.{throughBlockEnd}
 use Rattle.recognisers.proofs.Spelling.{word-fits, word-then, word-not}
-use Rattle.recognisers.proofs.Inside.{fits-more}
-use Rattle.recognisers.proofs.Comments.{block-inside}
+use Rattle.recognisers.proofs.TakenInside.{fits-more}
+use Rattle.recognisers.proofs.CommentLoops.{block-inside}
 use Rattle.recognisers.proofs.comment.block_comment.Statement.{statement}
 use Rattle.recognisers.proofs.comment.block_comment.Tie as tie
 
-starts-with-requires : tie.Need-starts-with-requires
-starts-with-requires c κs = search needs
+is-spelled-requires : tie.Need-is-spelled-requires
+is-spelled-requires c κs = search needs
 
 sub-through-block-end : tie.Need-sub-through-block-end
 sub-through-block-end c = search (word-fits typed throughBlockEnd)
@@ -35,7 +35,7 @@ pub block-comment-spec : {M : Type 1} → statement M
 block-comment-spec =
     tie.close
     (tie.spec
-    starts-with-requires
+    is-spelled-requires
     sub-through-block-end
     part-through-block-end-start
     part-through-block-end-end

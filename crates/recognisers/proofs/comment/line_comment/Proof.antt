@@ -2,13 +2,13 @@ use borrow.Author.Needs.{needs}
 use Rattle.recognisers.specs.Taking.{typed}
 use Rattle.recognisers.specs.Comment.{tillLineEnding}
 use Rattle.recognisers.proofs.Spelling.{word-fits, word-then, word-not}
-use Rattle.recognisers.proofs.Inside.{fits-more}
-use Rattle.recognisers.proofs.Comments.{line-inside}
+use Rattle.recognisers.proofs.TakenInside.{fits-more}
+use Rattle.recognisers.proofs.CommentLoops.{line-inside}
 use Rattle.recognisers.proofs.comment.line_comment.Statement.{statement}
 use Rattle.recognisers.proofs.comment.line_comment.Tie as tie
 
-starts-with-requires : tie.Need-starts-with-requires
-starts-with-requires c κs = search needs
+is-spelled-requires : tie.Need-is-spelled-requires
+is-spelled-requires c κs = search needs
 
 sub-till-line-ending : tie.Need-sub-till-line-ending
 sub-till-line-ending c = search (word-fits typed tillLineEnding)
@@ -35,7 +35,7 @@ pub line-comment-spec : {M : Type 1} → statement M
 line-comment-spec =
     tie.close
     (tie.spec
-    starts-with-requires
+    is-spelled-requires
     sub-till-line-ending
     part-till-line-ending-start
     part-till-line-ending-end

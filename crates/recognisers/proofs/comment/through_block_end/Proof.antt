@@ -2,7 +2,7 @@ use Prim.Native.Nat.{_-_}
 use lib.ListN.{length}
 use borrow.Author.Needs.{needs}
 use Rattle.recognisers.specs.Comment.{throughBlockEnd}
-use Rattle.recognisers.proofs.Comments.{PassedAt, passed-start, block-closed, block-on, block-end}
+use Rattle.recognisers.proofs.CommentLoops.{PassedAt, passed-start, block-closed, block-on, block-end}
 use Rattle.recognisers.proofs.comment.through_block_end.Statement.{statement}
 use Rattle.recognisers.proofs.comment.through_block_end.Tie as tie
 

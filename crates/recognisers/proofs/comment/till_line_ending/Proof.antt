@@ -2,7 +2,7 @@ use Prim.Native.Nat.{_-_}
 use lib.ListN.{length}
 use borrow.Author.Needs.{needs}
 use Rattle.recognisers.specs.Comment.{tillLineEnding}
-use Rattle.recognisers.proofs.Comments.{PassedAt, passed-start, line-feed, carriage-return, lone-return, line-on, line-end}
+use Rattle.recognisers.proofs.CommentLoops.{PassedAt, passed-start, line-feed, carriage-return, lone-return, line-on, line-end}
 use Rattle.recognisers.proofs.comment.till_line_ending.Statement.{statement}
 use Rattle.recognisers.proofs.comment.till_line_ending.Tie as tie
 

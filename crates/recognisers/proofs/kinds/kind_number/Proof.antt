@@ -1,4 +1,4 @@
-use mathlib.Core.Path.{_≡_, refl}
+use mathlib.Core.Path.{refl}
 use borrow.Author.Needs.{needs}
 use Rattle.recognisers.proofs.kinds.kind_number.Statement.{statement}
 use Rattle.recognisers.proofs.kinds.kind_number.Tie as tie

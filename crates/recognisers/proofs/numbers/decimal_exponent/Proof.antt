@@ -4,7 +4,7 @@ use Rattle.recognisers.proofs.Digits.{exponent-inside, fraction-inside}
 use Rattle.recognisers.specs.Taking.{typed, spelled, digit0}
 use Rattle.recognisers.specs.Number.{decimalNumber, exponent}
 use Rattle.recognisers.proofs.Digits.{digits-fit, digit1-none, digit1-then}
-use Rattle.recognisers.proofs.Inside.{fits-more}
+use Rattle.recognisers.proofs.TakenInside.{fits-more}
 use Rattle.recognisers.proofs.numbers.decimal_exponent.Statement.{statement}
 use Rattle.recognisers.proofs.numbers.decimal_exponent.Tie as tie
 

@@ -3,9 +3,9 @@ use Rattle.recognisers.specs.Text.{bytes}
 use Rattle.recognisers.proofs.Digits.{fraction-inside}
 use Rattle.recognisers.specs.Taking.{typed, spelled, digit0, done}
 use Rattle.recognisers.specs.Number.{decimalNumber}
-use Rattle.recognisers.proofs.Inside.{done-inside}
+use Rattle.recognisers.proofs.TakenInside.{done-inside}
 use Rattle.recognisers.proofs.Digits.{digits-fit, digit1-none, digit1-then}
-use Rattle.recognisers.proofs.Inside.{fits-more}
+use Rattle.recognisers.proofs.TakenInside.{fits-more}
 use Rattle.recognisers.proofs.numbers.decimal_number.Statement.{statement}
 use Rattle.recognisers.proofs.numbers.decimal_number.Tie as tie
 

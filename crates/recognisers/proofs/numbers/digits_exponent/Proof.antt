@@ -2,7 +2,7 @@ use borrow.Author.Needs.{needs}
 use Rattle.recognisers.proofs.Digits.{exponent-inside}
 use Rattle.recognisers.specs.Number.{exponent}
 use Rattle.recognisers.proofs.Digits.{digits-fit, digit1-none, digit1-then}
-use Rattle.recognisers.proofs.Inside.{fits-more}
+use Rattle.recognisers.proofs.TakenInside.{fits-more}
 use Rattle.recognisers.proofs.numbers.digits_exponent.Statement.{statement}
 use Rattle.recognisers.proofs.numbers.digits_exponent.Tie as tie
 

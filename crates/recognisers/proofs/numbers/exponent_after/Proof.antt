@@ -3,12 +3,12 @@ use Rattle.recognisers.proofs.Digits.{signed-inside}
 use Rattle.recognisers.specs.Taking.{typed}
 use Rattle.recognisers.specs.Number.{signedDigits}
 use Rattle.recognisers.proofs.Spelling.{word-fits, word-then, word-not}
-use Rattle.recognisers.proofs.Inside.{fits-more}
+use Rattle.recognisers.proofs.TakenInside.{fits-more}
 use Rattle.recognisers.proofs.numbers.exponent_after.Statement.{statement}
 use Rattle.recognisers.proofs.numbers.exponent_after.Tie as tie
 
-starts-with-requires : tie.Need-starts-with-requires
-starts-with-requires c κs = search needs
+is-spelled-requires : tie.Need-is-spelled-requires
+is-spelled-requires c κs = search needs
 
 sub-signed-digits : tie.Need-sub-signed-digits
 sub-signed-digits c = search (word-fits typed signedDigits)
@@ -35,7 +35,7 @@ pub exponent-after-spec : {M : Type 1} → statement M
 exponent-after-spec =
     tie.close
     (tie.spec
-    starts-with-requires
+    is-spelled-requires
     sub-signed-digits
     part-signed-digits-start
     part-signed-digits-end

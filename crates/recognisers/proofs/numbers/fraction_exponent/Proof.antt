@@ -1,7 +1,7 @@
 use borrow.Author.Needs.{needs}
 use Rattle.recognisers.proofs.Digits.{digits-fit, digit0-then, exponent-inside}
 use Rattle.recognisers.specs.Number.{exponent}
-use Rattle.recognisers.proofs.Inside.{fits-more}
+use Rattle.recognisers.proofs.TakenInside.{fits-more}
 use Rattle.recognisers.proofs.numbers.fraction_exponent.Statement.{statement}
 use Rattle.recognisers.proofs.numbers.fraction_exponent.Tie as tie
 

@@ -1,7 +1,7 @@
 use borrow.Author.Needs.{needs}
 use Rattle.recognisers.proofs.Digits.{marked-fits, marked-then, marked-not, digits-inside}
 use Rattle.recognisers.specs.Taking.{done, digit1}
-use Rattle.recognisers.proofs.Inside.{fits-more}
+use Rattle.recognisers.proofs.TakenInside.{fits-more}
 use Rattle.recognisers.proofs.numbers.marked_digits.Statement.{statement}
 use Rattle.recognisers.proofs.numbers.marked_digits.Tie as tie
 

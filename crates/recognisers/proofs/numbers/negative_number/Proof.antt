@@ -3,12 +3,12 @@ use Rattle.recognisers.proofs.Digits.{unsigned-inside}
 use Rattle.recognisers.specs.Taking.{typed}
 use Rattle.recognisers.specs.Number.{unsigned}
 use Rattle.recognisers.proofs.Spelling.{word-fits, word-then, word-not}
-use Rattle.recognisers.proofs.Inside.{fits-more}
+use Rattle.recognisers.proofs.TakenInside.{fits-more}
 use Rattle.recognisers.proofs.numbers.negative_number.Statement.{statement}
 use Rattle.recognisers.proofs.numbers.negative_number.Tie as tie
 
-starts-with-requires : tie.Need-starts-with-requires
-starts-with-requires c κs = search needs
+is-spelled-requires : tie.Need-is-spelled-requires
+is-spelled-requires c κs = search needs
 
 sub-unsigned-number : tie.Need-sub-unsigned-number
 sub-unsigned-number c = search (word-fits typed unsigned)
@@ -35,7 +35,7 @@ pub negative-number-spec : {M : Type 1} → statement M
 negative-number-spec =
     tie.close
     (tie.spec
-    starts-with-requires
+    is-spelled-requires
     sub-unsigned-number
     part-unsigned-number-start
     part-unsigned-number-end

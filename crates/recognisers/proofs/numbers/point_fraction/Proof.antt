@@ -1,13 +1,13 @@
 use borrow.Author.Needs.{needs}
 use Rattle.recognisers.specs.Taking.{typed, digit0, done}
-use Rattle.recognisers.proofs.Inside.{digit0-inside, done-inside}
+use Rattle.recognisers.proofs.TakenInside.{digit0-inside, done-inside}
 use Rattle.recognisers.proofs.Spelling.{word-fits, word-then, word-not}
-use Rattle.recognisers.proofs.Inside.{fits-more}
+use Rattle.recognisers.proofs.TakenInside.{fits-more}
 use Rattle.recognisers.proofs.numbers.point_fraction.Statement.{statement}
 use Rattle.recognisers.proofs.numbers.point_fraction.Tie as tie
 
-starts-with-requires : tie.Need-starts-with-requires
-starts-with-requires c κs = search needs
+is-spelled-requires : tie.Need-is-spelled-requires
+is-spelled-requires c κs = search needs
 
 sub-fraction : tie.Need-sub-fraction
 sub-fraction c = search (word-fits typed (digit0 done))
@@ -34,7 +34,7 @@ pub point-fraction-spec : {M : Type 1} → statement M
 point-fraction-spec =
     tie.close
     (tie.spec
-    starts-with-requires
+    is-spelled-requires
     sub-fraction
     part-fraction-start
     part-fraction-end

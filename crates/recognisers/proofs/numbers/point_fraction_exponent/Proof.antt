@@ -2,14 +2,14 @@ use borrow.Author.Needs.{needs}
 use Rattle.recognisers.proofs.Digits.{exponent-inside}
 use Rattle.recognisers.specs.Taking.{typed, digit0}
 use Rattle.recognisers.specs.Number.{exponent}
-use Rattle.recognisers.proofs.Inside.{digit0-inside}
+use Rattle.recognisers.proofs.TakenInside.{digit0-inside}
 use Rattle.recognisers.proofs.Spelling.{word-fits, word-then, word-not}
-use Rattle.recognisers.proofs.Inside.{fits-more}
+use Rattle.recognisers.proofs.TakenInside.{fits-more}
 use Rattle.recognisers.proofs.numbers.point_fraction_exponent.Statement.{statement}
 use Rattle.recognisers.proofs.numbers.point_fraction_exponent.Tie as tie
 
-starts-with-requires : tie.Need-starts-with-requires
-starts-with-requires c κs = search needs
+is-spelled-requires : tie.Need-is-spelled-requires
+is-spelled-requires c κs = search needs
 
 sub-fraction-exponent : tie.Need-sub-fraction-exponent
 sub-fraction-exponent c = search (word-fits typed (digit0 exponent))
@@ -36,7 +36,7 @@ pub point-fraction-exponent-spec : {M : Type 1} → statement M
 point-fraction-exponent-spec =
     tie.close
     (tie.spec
-    starts-with-requires
+    is-spelled-requires
     sub-fraction-exponent
     part-fraction-exponent-start
     part-fraction-exponent-end

@@ -5,8 +5,8 @@ use Rattle.recognisers.proofs.Spelling.{word-fits}
 use Rattle.recognisers.proofs.parens.end_case.Statement.{statement}
 use Rattle.recognisers.proofs.parens.end_case.Tie as tie
 
-starts-with-caseless-requires : tie.Need-starts-with-caseless-requires
-starts-with-caseless-requires c κs = search needs
+is-spelled-caseless-requires : tie.Need-is-spelled-caseless-requires
+is-spelled-caseless-requires c κs = search needs
 
 sub-blanks-then-word : tie.Need-sub-blanks-then-word
 sub-blanks-then-word c = search (word-fits capital done)
@@ -33,7 +33,7 @@ pub end-case-spec : {M : Type 1} → statement M
 end-case-spec =
     tie.close
     (tie.spec
-    starts-with-caseless-requires
+    is-spelled-caseless-requires
     sub-blanks-then-word
     part-blanks-then-word-start
     part-blanks-then-word-end

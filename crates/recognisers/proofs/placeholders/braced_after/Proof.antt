@@ -3,12 +3,12 @@ use Rattle.recognisers.proofs.PlaceholderLaws.{braced-inside}
 use Rattle.recognisers.specs.Placeholder.{bracedText}
 use Rattle.recognisers.specs.Taking.{typed}
 use Rattle.recognisers.proofs.Spelling.{word-fits, word-then, word-not}
-use Rattle.recognisers.proofs.Inside.{fits-more}
+use Rattle.recognisers.proofs.TakenInside.{fits-more}
 use Rattle.recognisers.proofs.placeholders.braced_after.Statement.{statement}
 use Rattle.recognisers.proofs.placeholders.braced_after.Tie as tie
 
-starts-with-requires : tie.Need-starts-with-requires
-starts-with-requires c κs = search needs
+is-spelled-requires : tie.Need-is-spelled-requires
+is-spelled-requires c κs = search needs
 
 sub-braced-text : tie.Need-sub-braced-text
 sub-braced-text c = search (word-fits typed bracedText)
@@ -35,7 +35,7 @@ pub braced-after-spec : {M : Type 1} → statement M
 braced-after-spec =
     tie.close
     (tie.spec
-    starts-with-requires
+    is-spelled-requires
     sub-braced-text
     part-braced-text-start
     part-braced-text-end

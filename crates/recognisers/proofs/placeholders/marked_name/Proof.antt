@@ -2,7 +2,7 @@ use borrow.Author.Needs.{needs}
 use Rattle.recognisers.proofs.PlaceholderLaws.{name-inside}
 use Rattle.recognisers.specs.Placeholder.{placeholderName}
 use Rattle.recognisers.proofs.Digits.{marked-fits, marked-then, marked-not}
-use Rattle.recognisers.proofs.Inside.{fits-more}
+use Rattle.recognisers.proofs.TakenInside.{fits-more}
 use Rattle.recognisers.proofs.placeholders.marked_name.Statement.{statement}
 use Rattle.recognisers.proofs.placeholders.marked_name.Tie as tie
 

@@ -1,6 +1,6 @@
 use borrow.Author.Needs.{needs}
 use Rattle.recognisers.specs.Placeholder.{getPlaceholderToken}
-use Rattle.recognisers.proofs.Choosing.{first-recognises, rest-recognises}
+use Rattle.recognisers.proofs.OrderedChoice.{first-recognises, rest-recognises}
 use Rattle.recognisers.proofs.placeholders.names_first.Statement.{statement}
 use Rattle.recognisers.proofs.placeholders.names_first.Tie as tie
 

@@ -1,5 +1,5 @@
 use borrow.Author.Needs.{needs}
-use Rattle.recognisers.proofs.Choosing.{first-recognises, rest-recognises}
+use Rattle.recognisers.proofs.OrderedChoice.{first-recognises, rest-recognises}
 use Rattle.recognisers.proofs.placeholders.string_then_index.Statement.{statement}
 use Rattle.recognisers.proofs.placeholders.string_then_index.Tie as tie
 

@@ -3,7 +3,7 @@ use lib.ListN.{length}
 use borrow.Author.Needs.{needs}
 use Rattle.recognisers.specs.Placeholder.{throughBrace}
 use Rattle.recognisers.proofs.PlaceholderLaws.{brace-here, brace-on, brace-none}
-use Rattle.recognisers.proofs.Comments.{PassedAt, passed-start}
+use Rattle.recognisers.proofs.CommentLoops.{PassedAt, passed-start}
 use Rattle.recognisers.proofs.placeholders.through_brace.Statement.{statement}
 use Rattle.recognisers.proofs.placeholders.through_brace.Tie as tie
 

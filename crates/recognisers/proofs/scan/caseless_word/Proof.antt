@@ -1,12 +1,12 @@
 use borrow.Author.Needs.{needs}
 use Rattle.recognisers.specs.Taking.{capital, endOfWord}
 use Rattle.recognisers.proofs.Spelling.{word-fits, word-then, word-not}
-use Rattle.recognisers.proofs.Inside.{fits-more, end-of-word-inside}
+use Rattle.recognisers.proofs.TakenInside.{fits-more, end-of-word-inside}
 use Rattle.recognisers.proofs.scan.caseless_word.Statement.{statement}
 use Rattle.recognisers.proofs.scan.caseless_word.Tie as tie
 
-starts-with-caseless-requires : tie.Need-starts-with-caseless-requires
-starts-with-caseless-requires c κs = search needs
+is-spelled-caseless-requires : tie.Need-is-spelled-caseless-requires
+is-spelled-caseless-requires c κs = search needs
 
 sub-end-of-word : tie.Need-sub-end-of-word
 sub-end-of-word c = search (word-fits capital endOfWord)
@@ -33,7 +33,7 @@ pub caseless-word-spec : {M : Type 1} → statement M
 caseless-word-spec =
     tie.close
     (tie.spec
-    starts-with-caseless-requires
+    is-spelled-caseless-requires
     sub-end-of-word
     part-end-of-word-start
     part-end-of-word-end

@@ -1,5 +1,5 @@
 use borrow.Author.Needs.{needs}
-use Rattle.recognisers.proofs.Cases.{word-goes-on, word-ends}
+use Rattle.recognisers.proofs.MatchedAnswers.{word-goes-on, word-ends}
 use Rattle.recognisers.proofs.scan.end_of_word.Statement.{statement}
 use Rattle.recognisers.proofs.scan.end_of_word.Tie as tie
 

@@ -1,5 +1,5 @@
 use borrow.Author.Needs.{needs}
-use Rattle.recognisers.proofs.Cases.{or-bytes}
+use Rattle.recognisers.proofs.MatchedAnswers.{or-bytes}
 use Rattle.recognisers.proofs.scan.first_of.Statement.{statement}
 use Rattle.recognisers.proofs.scan.first_of.Tie as tie
 

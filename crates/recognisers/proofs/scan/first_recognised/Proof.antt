@@ -1,5 +1,5 @@
 use borrow.Author.Needs.{needs}
-use Rattle.recognisers.proofs.Cases.{alt-token, alt-nothing}
+use Rattle.recognisers.proofs.MatchedAnswers.{alt-token}
 use Rattle.recognisers.proofs.scan.first_recognised.Statement.{statement}
 use Rattle.recognisers.proofs.scan.first_recognised.Tie as tie
 

@@ -1,7 +1,7 @@
 use Prim.Native.Nat.{_-_}
 use lib.ListN.{length}
 use borrow.Author.Needs.{needs}
-use Rattle.recognisers.proofs.Counting.{AmongAt, among-start, among-here, among-next, among-none}
+use Rattle.recognisers.proofs.ByteLoops.{AmongAt, among-start, among-here, among-next, among-none}
 use Rattle.recognisers.proofs.scan.is_among.Statement.{statement}
 use Rattle.recognisers.proofs.scan.is_among.Tie as tie
 

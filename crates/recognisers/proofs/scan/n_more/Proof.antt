@@ -1,5 +1,5 @@
 use borrow.Author.Needs.{needs}
-use Rattle.recognisers.proofs.Cases.{more-bytes, more-fits}
+use Rattle.recognisers.proofs.MatchedAnswers.{more-bytes, more-fits}
 use Rattle.recognisers.proofs.scan.n_more.Statement.{statement}
 use Rattle.recognisers.proofs.scan.n_more.Tie as tie
 

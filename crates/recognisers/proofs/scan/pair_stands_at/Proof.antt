@@ -1,5 +1,5 @@
 use borrow.Author.Needs.{needs}
-use Rattle.recognisers.proofs.Cases.{and-first, and-second}
+use Rattle.unicode.proofs.ShortCircuit.{and-first, and-second}
 use Rattle.recognisers.proofs.scan.pair_stands_at.Statement.{statement}
 use Rattle.recognisers.proofs.scan.pair_stands_at.Tie as tie
 

@@ -1,5 +1,5 @@
 use borrow.Author.Needs.{needs}
-use Rattle.recognisers.proofs.Counting.{stands, stands-not}
+use Rattle.recognisers.proofs.ByteLoops.{stands, stands-not}
 use Rattle.recognisers.proofs.scan.stands_at.Statement.{statement}
 use Rattle.recognisers.proofs.scan.stands_at.Tie as tie
 

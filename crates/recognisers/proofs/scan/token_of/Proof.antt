@@ -1,5 +1,5 @@
 use borrow.Author.Needs.{needs}
-use Rattle.recognisers.proofs.Cases.{token-bytes}
+use Rattle.recognisers.proofs.MatchedAnswers.{token-bytes}
 use Rattle.recognisers.proofs.scan.token_of.Statement.{statement}
 use Rattle.recognisers.proofs.scan.token_of.Tie as tie
 

@@ -1,5 +1,5 @@
 use borrow.Author.Needs.{needs}
-use Rattle.recognisers.proofs.Quotes.{closed-fits, closed-is}
+use Rattle.recognisers.proofs.ClosingQuote.{closed-fits, closed-is}
 use Rattle.recognisers.proofs.strings.closed_by.Statement.{statement}
 use Rattle.recognisers.proofs.strings.closed_by.Tie as tie
 

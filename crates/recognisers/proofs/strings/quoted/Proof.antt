@@ -1,12 +1,12 @@
 use borrow.Author.Needs.{needs}
-use Rattle.recognisers.proofs.Quotes.{quoted-yes, quoted-no, quoted-fits}
+use Rattle.recognisers.proofs.ClosingQuote.{quoted-yes, quoted-no, quoted-fits}
 use Rattle.recognisers.specs.Taking.{done, typed}
 use Rattle.recognisers.proofs.Spelling.{word-fits}
 use Rattle.recognisers.proofs.strings.quoted.Statement.{statement}
 use Rattle.recognisers.proofs.strings.quoted.Tie as tie
 
-starts-with-requires : tie.Need-starts-with-requires
-starts-with-requires c κs = search needs
+is-spelled-requires : tie.Need-is-spelled-requires
+is-spelled-requires c κs = search needs
 
 sub-closed-by : tie.Need-sub-closed-by
 sub-closed-by c = search (word-fits typed done)
@@ -33,7 +33,7 @@ pub quoted-spec : {M : Type 1} → statement M
 quoted-spec =
     tie.close
     (tie.spec
-    starts-with-requires
+    is-spelled-requires
     sub-closed-by
     part-closed-by-start
     part-closed-by-end

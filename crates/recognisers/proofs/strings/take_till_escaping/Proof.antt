@@ -3,8 +3,8 @@ use mathlib.Core.Bool.{false}
 use lib.ListN.{length}
 use borrow.Author.Needs.{needs}
 use Rattle.recognisers.specs.Strings.{takeTillEscaping}
-use Rattle.recognisers.proofs.Comments.{PassedAt}
-use Rattle.recognisers.proofs.Quotes.{quote-start, quote-two, quote-here, quote-one, quote-none}
+use Rattle.recognisers.proofs.CommentLoops.{PassedAt}
+use Rattle.recognisers.proofs.ClosingQuote.{quote-start, quote-two, quote-here, quote-one, quote-none}
 use Rattle.recognisers.proofs.strings.take_till_escaping.Statement.{statement}
 use Rattle.recognisers.proofs.strings.take_till_escaping.Tie as tie
 

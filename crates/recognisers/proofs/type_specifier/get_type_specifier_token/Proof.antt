@@ -1,6 +1,6 @@
 use borrow.Author.Needs.{needs}
 use Rattle.recognisers.specs.TypeSpecifier.{getTypeSpecifierToken}
-use Rattle.recognisers.proofs.Cases.{cond-yes, cond-no}
+use Rattle.recognisers.proofs.MatchedAnswers.{cond-yes, cond-no}
 use Rattle.recognisers.proofs.type_specifier.get_type_specifier_token.Statement.{statement}
 use Rattle.recognisers.proofs.type_specifier.get_type_specifier_token.Tie as tie
 

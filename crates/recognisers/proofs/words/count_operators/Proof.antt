@@ -2,7 +2,7 @@ use Prim.Native.Nat.{_-_}
 use lib.ListN.{length}
 use borrow.Author.Needs.{needs}
 use Rattle.recognisers.specs.Words.{isOperator}
-use Rattle.recognisers.proofs.Counting.{CountAt, count-start, count-more, count-stop, count-end}
+use Rattle.recognisers.proofs.ByteLoops.{CountAt, count-start, count-more, count-stop, count-end}
 use Rattle.recognisers.proofs.words.count_operators.Statement.{statement}
 use Rattle.recognisers.proofs.words.count_operators.Tie as tie
 

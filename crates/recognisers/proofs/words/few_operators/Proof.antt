@@ -1,6 +1,6 @@
 use borrow.Author.Needs.{needs}
 use Rattle.recognisers.specs.Words.{isOperator}
-use Rattle.recognisers.proofs.Counting.{five-long, count-first, count-few}
+use Rattle.recognisers.proofs.ByteLoops.{five-long, count-first, count-few}
 use Rattle.recognisers.proofs.words.few_operators.Statement.{statement}
 use Rattle.recognisers.proofs.words.few_operators.Tie as tie
 

@@ -1,5 +1,5 @@
 use borrow.Author.Needs.{needs}
-use Rattle.recognisers.proofs.Cases.{other-break, other-char}
+use Rattle.recognisers.proofs.MatchedAnswers.{other-break, other-char}
 use Rattle.recognisers.proofs.words.get_any_other_char.Statement.{statement}
 use Rattle.recognisers.proofs.words.get_any_other_char.Tie as tie
 

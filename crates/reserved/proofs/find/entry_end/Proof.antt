@@ -1,5 +1,5 @@
 use borrow.Author.Needs.{needs}
-use Rattle.reserved.proofs.Walking.{words-fit, entry-yes, entry-no, entry-fits}
+use Rattle.reserved.proofs.PhraseWalk.{words-fit, entry-yes, entry-no, entry-fits}
 use Rattle.reserved.proofs.find.entry_end.Statement.{statement}
 use Rattle.reserved.proofs.find.entry_end.Tie as tie
 

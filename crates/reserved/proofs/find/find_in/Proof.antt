@@ -1,7 +1,7 @@
 use Prim.Native.Nat.{_-_}
 use lib.ListN.{length}
 use borrow.Author.Needs.{needs}
-use Rattle.reserved.proofs.Finding.{FindAt, find-start, find-cut, find-here, find-next, find-end}
+use Rattle.reserved.proofs.FirstEntry.{FindAt, find-start, find-cut, find-here, find-next, find-end}
 use Rattle.reserved.proofs.find.find_in.Statement.{statement}
 use Rattle.reserved.proofs.find.find_in.Tie as tie
 

@@ -1,7 +1,7 @@
 use borrow.Author.Needs.{needs}
-use Rattle.reserved.proofs.Walking.{words-fit, exists-yes, exists-no}
+use Rattle.reserved.proofs.PhraseWalk.{words-fit, exists-yes, exists-no}
 use Rattle.recognisers.specs.Taking.{endOfWord}
-use Rattle.recognisers.proofs.Inside.{fits-more, end-of-word-inside}
+use Rattle.recognisers.proofs.TakenInside.{fits-more, end-of-word-inside}
 use Rattle.reserved.proofs.find.if_exists.Statement.{statement}
 use Rattle.reserved.proofs.find.if_exists.Tie as tie
 

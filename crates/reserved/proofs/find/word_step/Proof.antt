@@ -1,5 +1,5 @@
 use borrow.Author.Needs.{needs}
-use Rattle.reserved.proofs.Walking.{gap-none, gap-taken, letter-none, letter-taken, letter-other}
+use Rattle.reserved.proofs.PhraseWalk.{gap-none, gap-taken, letter-none, letter-taken, letter-other}
 use Rattle.reserved.proofs.find.word_step.Statement.{statement}
 use Rattle.reserved.proofs.find.word_step.Tie as tie
 

@@ -1,7 +1,7 @@
 use Prim.Native.Nat.{_-_}
 use lib.ListN.{length}
 use borrow.Author.Needs.{needs}
-use Rattle.reserved.proofs.Walking.{WalkAt, walk-start, walk-fails, walk-fits, walk-more, walk-end}
+use Rattle.reserved.proofs.PhraseWalk.{WalkAt, walk-start, walk-fails, walk-fits, walk-more, walk-end}
 use Rattle.reserved.proofs.find.words_end.Statement.{statement}
 use Rattle.reserved.proofs.find.words_end.Tie as tie
 

@@ -1,5 +1,4 @@
 use Prim.Native.Nat.{ℕ}
-use native.Mathlib.Omega.{arith}
 use mathlib.Core.List.{List, [], _∷_}
 use mathlib.Core.Path.{refl}
 use borrow.Author.Needs.{needs}
@@ -12,7 +11,7 @@ use Rattle.reserved.specs.Join.{joinPhrases}
 use Rattle.reserved.specs.NoIndent.{noIndentPhrases}
 use Rattle.reserved.specs.Plain.{plainTwoPhrases, plainOnePhrases, plainA, plainB, plainC, plainD, plainE, plainF, plainG, plainH, plainI, plainK, plainL, plainM, plainN, plainO, plainP, plainQ, plainR, plainS, plainT, plainU, plainV, plainW, plainY}
 use Rattle.reserved.specs.Entries.{grouped, entries, encoded, entriesOf}
-use Rattle.reserved.proofs.Finding.{letter-is, none-is, empty-is}
+use Rattle.reserved.proofs.FirstEntry.{letter-is, none-is, empty-is}
 use Rattle.reserved.proofs.tables.find_phrase.Statement.{statement}
 use Rattle.reserved.proofs.tables.find_phrase.Tie as tie
 

@@ -1,5 +1,5 @@
 use borrow.Author.Needs.{needs}
-use Rattle.reserved.proofs.Groups.{after-dot, no-letter, reserved-word}
+use Rattle.reserved.proofs.EntryTokens.{after-dot, no-letter, reserved-word}
 use Rattle.reserved.proofs.words.get_reserved_word_token.Statement.{statement}
 use Rattle.reserved.proofs.words.get_reserved_word_token.Tie as tie
 

@@ -1,5 +1,5 @@
 use borrow.Author.Needs.{needs}
-use Rattle.recognisers.proofs.Cases.{and-first, and-second}
+use Rattle.unicode.proofs.ShortCircuit.{and-first, and-second}
 use Rattle.reserved.proofs.words.is_and.Statement.{statement}
 use Rattle.reserved.proofs.words.is_and.Tie as tie
 

@@ -1,5 +1,5 @@
 use borrow.Author.Needs.{needs}
-use Rattle.recognisers.proofs.Cases.{or-first, or-second}
+use Rattle.unicode.proofs.ShortCircuit.{or-first, or-second}
 use Rattle.reserved.specs.Reserved.{mayBeReserved}
 use Rattle.reserved.proofs.words.may_be_reserved.Statement.{statement}
 use Rattle.reserved.proofs.words.may_be_reserved.Tie as tie

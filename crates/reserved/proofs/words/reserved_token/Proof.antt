@@ -1,5 +1,5 @@
 use borrow.Author.Needs.{needs}
-use Rattle.reserved.proofs.Groups.{entry-length, entry-token, entry-none}
+use Rattle.reserved.proofs.EntryTokens.{entry-length, entry-token, entry-none}
 use Rattle.reserved.proofs.words.reserved_token.Statement.{statement}
 use Rattle.reserved.proofs.words.reserved_token.Tie as tie
 

@@ -1,5 +1,5 @@
 use borrow.Author.Needs.{needs}
-use Rattle.reserved.proofs.Groups.{no-letter-at-end, letter-at-start}
+use Rattle.reserved.proofs.EntryTokens.{no-letter-at-end, letter-at-start}
 use Rattle.reserved.proofs.words.starts_with_letter.Statement.{statement}
 use Rattle.reserved.proofs.words.starts_with_letter.Tie as tie
 

@@ -1,6 +1,6 @@
 use borrow.Author.Needs.{needs}
 use Rattle.tokenizer.specs.NextToken.{fromPlaceholder}
-use Rattle.recognisers.proofs.Choosing.{first-recognises, rest-recognises}
+use Rattle.recognisers.proofs.OrderedChoice.{first-recognises, rest-recognises}
 use Rattle.tokenizer.proofs.choice.from_placeholder.Statement.{statement}
 use Rattle.tokenizer.proofs.choice.from_placeholder.Tie as tie
 

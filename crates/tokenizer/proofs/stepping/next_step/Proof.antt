@@ -1,7 +1,7 @@
 use mathlib.Core.Path.{sym}
 use lib.Seq.{length-take-le}
 use borrow.Author.Needs.{needs}
-use Rattle.tokenizer.proofs.PieceSizes.{len-inside, alias-inside, key-fits, len-fits, step-token, step-past, step-nothing}
+use Rattle.tokenizer.proofs.NextPieceSizes.{len-inside, alias-inside, key-fits, len-fits, step-token, step-past, step-nothing}
 use Rattle.tokenizer.proofs.stepping.next_step.Statement.{statement}
 use Rattle.tokenizer.proofs.stepping.next_step.Tie as tie
 

@@ -1,5 +1,5 @@
 use borrow.Author.Needs.{needs}
-use Rattle.unicode.proofs.Either.{or-first, or-second}
+use Rattle.unicode.proofs.ShortCircuit.{or-first, or-second}
 use Rattle.unicode.specs.Classes.{isAlphanumeric}
 use Rattle.unicode.proofs.classes.is_alphanumeric.Statement.{statement}
 use Rattle.unicode.proofs.classes.is_alphanumeric.Tie as tie

@@ -1,5 +1,5 @@
 use borrow.Author.Needs.{needs}
-use Rattle.unicode.proofs.Either.{or-first, or-second}
+use Rattle.unicode.proofs.ShortCircuit.{or-first, or-second}
 use Rattle.unicode.specs.Classes.{isWordCharacter}
 use Rattle.unicode.proofs.AsciiTable.{ascii-word}
 use Rattle.unicode.proofs.classes.is_word_character.Statement.{statement}

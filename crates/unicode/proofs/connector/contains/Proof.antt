@@ -6,7 +6,7 @@ use borrow.Author.Needs.{needs}
 use Rattle.unicode.specs.Ranges.{endsOf}
 use Rattle.unicode.specs.Connector.{connector}
 use Rattle.unicode.proofs.Ordered.{connector-ordered}
-use Rattle.unicode.proofs.Parts.{last-part-is}
+use Rattle.unicode.proofs.TableParts.{last-part-is}
 use Rattle.unicode.proofs.connector.contains.Statement.{statement}
 use Rattle.unicode.proofs.connector.contains.Tie as tie
 

@@ -1,6 +1,6 @@
 use borrow.Author.Needs.{needs}
 use Rattle.unicode.proofs.Decoding.{decode-past}
-use Rattle.unicode.proofs.Validation.{part-end}
+use Rattle.unicode.proofs.Rests.{part-end}
 use Rattle.unicode.proofs.decode.character_at.Statement.{statement}
 use Rattle.unicode.proofs.decode.character_at.Tie as tie
 

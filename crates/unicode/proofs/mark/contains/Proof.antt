@@ -6,7 +6,7 @@ use borrow.Author.Needs.{needs}
 use Rattle.unicode.specs.Ranges.{endsOf}
 use Rattle.unicode.specs.Mark.{mark}
 use Rattle.unicode.proofs.Ordered.{mark-ordered}
-use Rattle.unicode.proofs.Parts.{part-is, last-part-is}
+use Rattle.unicode.proofs.TableParts.{part-is, last-part-is}
 use Rattle.unicode.proofs.mark.contains.Statement.{statement}
 use Rattle.unicode.proofs.mark.contains.Tie as tie
 

@@ -1,5 +1,5 @@
 use borrow.Author.Needs.{needs}
-use Rattle.unicode.proofs.Sequences.{byte-below, byte-from, byte-none}
+use Rattle.unicode.proofs.SequenceRows.{byte-below, byte-from, byte-none}
 use Rattle.unicode.proofs.utf8.byte_within.Statement.{statement}
 use Rattle.unicode.proofs.utf8.byte_within.Tie as tie
 

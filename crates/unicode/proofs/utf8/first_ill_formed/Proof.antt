@@ -1,7 +1,7 @@
 use Prim.Native.Nat.{_-_}
 use lib.ListN.{length}
 use borrow.Author.Needs.{needs}
-use Rattle.unicode.proofs.Validation.{ValidAt, valid-start, valid-ascii, valid-sequence, valid-stop, valid-end, ascii-fits, sequence-fits}
+use Rattle.unicode.proofs.FirstIllFormed.{ValidAt, valid-start, valid-ascii, valid-sequence, valid-stop, valid-end, ascii-fits, sequence-fits}
 use Rattle.unicode.proofs.utf8.first_ill_formed.Statement.{statement}
 use Rattle.unicode.proofs.utf8.first_ill_formed.Tie as tie
 

@@ -1,5 +1,5 @@
 use borrow.Author.Needs.{needs}
-use Rattle.unicode.proofs.Blocks.{four-are}
+use Rattle.unicode.proofs.AsciiBlocks.{four-are}
 use Rattle.unicode.proofs.utf8.four_ascii.Statement.{statement}
 use Rattle.unicode.proofs.utf8.four_ascii.Tie as tie
 

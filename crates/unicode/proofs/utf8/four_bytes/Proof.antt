@@ -1,5 +1,5 @@
 use borrow.Author.Needs.{needs}
-use Rattle.unicode.proofs.Sequences.{second-no, third-no, fourth-no, fourth-yes}
+use Rattle.unicode.proofs.SequenceRows.{second-no, third-no, fourth-no, fourth-yes}
 use Rattle.unicode.proofs.utf8.four_bytes.Statement.{statement}
 use Rattle.unicode.proofs.utf8.four_bytes.Tie as tie
 

@@ -1,8 +1,8 @@
 use native.Mathlib.Omega.{arith}
 use mathlib.Core.Path.{refl}
 use borrow.Author.Needs.{needs}
-use Rattle.unicode.specs.Utf8.{table-3-7, startsWith}
-use Rattle.unicode.proofs.Sequences.{sequence-none, sequence-row, sequence-between, sequence-gap}
+use Rattle.unicode.specs.Utf8.{table-3-7, fitsRow}
+use Rattle.unicode.proofs.SequenceRows.{sequence-none, sequence-row, sequence-between, sequence-gap}
 use Rattle.unicode.proofs.utf8.sequence_length.Statement.{statement}
 use Rattle.unicode.proofs.utf8.sequence_length.Tie as tie
 
@@ -53,7 +53,7 @@ unfolding table-3-7
 returns-5 c = sequence-row 8 _ _ (omega arith) (omega arith) (omega arith) (c .four-bytes2 .ensures)
 
 returns-6 : tie.Need-returns-6
-unfolding table-3-7 startsWith
+unfolding table-3-7 fitsRow
 returns-6 c = sequence-row 0 _ _ (omega arith) (omega arith) (omega arith) refl
 
 returns-7 : tie.Need-returns-7

@@ -1,5 +1,5 @@
 use borrow.Author.Needs.{needs}
-use Rattle.unicode.proofs.Blocks.{sixteen-are}
+use Rattle.unicode.proofs.AsciiBlocks.{sixteen-are}
 use Rattle.unicode.proofs.utf8.sixteen_ascii.Statement.{statement}
 use Rattle.unicode.proofs.utf8.sixteen_ascii.Tie as tie
 

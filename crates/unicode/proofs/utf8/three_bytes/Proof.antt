@@ -1,5 +1,5 @@
 use borrow.Author.Needs.{needs}
-use Rattle.unicode.proofs.Sequences.{second-no, third-yes, third-no}
+use Rattle.unicode.proofs.SequenceRows.{second-no, third-yes, third-no}
 use Rattle.unicode.proofs.utf8.three_bytes.Statement.{statement}
 use Rattle.unicode.proofs.utf8.three_bytes.Tie as tie
 

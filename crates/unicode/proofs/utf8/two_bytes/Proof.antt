@@ -1,5 +1,5 @@
 use borrow.Author.Needs.{needs}
-use Rattle.unicode.proofs.Sequences.{second-yes, second-no}
+use Rattle.unicode.proofs.SequenceRows.{second-yes, second-no}
 use Rattle.unicode.proofs.utf8.two_bytes.Statement.{statement}
 use Rattle.unicode.proofs.utf8.two_bytes.Tie as tie
 

@@ -6,7 +6,7 @@ use borrow.Author.Needs.{needs}
 use Rattle.unicode.specs.Ranges.{endsOf}
 use Rattle.unicode.specs.WhiteSpace.{whiteSpace}
 use Rattle.unicode.proofs.Ordered.{white-space-ordered}
-use Rattle.unicode.proofs.Parts.{last-part-is}
+use Rattle.unicode.proofs.TableParts.{last-part-is}
 use Rattle.unicode.proofs.white_space.contains.Statement.{statement}
 use Rattle.unicode.proofs.white_space.contains.Tie as tie
 

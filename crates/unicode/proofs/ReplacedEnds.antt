@@ -11,15 +11,15 @@ use lib.Dec.{leb, eqb}
 use borrow.Author.Tests.{le-leb, leb-true, eqb-true}
 use Rattle.unicode.specs.Ranges.{within}
 use Rattle.unicode.specs.Character.{isContinuation, continuations, continued}
-use Rattle.unicode.specs.Utf8.{table-3-7, startsWith, sequenceIn, sequenceLength, wellFormedFrom, wellFormed}
-use Rattle.unicode.proofs.Sequences.{Rows, sequence-between}
-use Rattle.unicode.proofs.Characters.{continuations-grow, continuing, called, allCalled, table-called, sequence-whole}
-use Rattle.unicode.proofs.Validation.{pass, step, stop}
+use Rattle.unicode.specs.Utf8.{table-3-7, fitsRow, sequenceIn, sequenceLength, wellFormedFrom, wellFormed}
+use Rattle.unicode.proofs.SequenceRows.{Rows, sequence-between}
+use Rattle.unicode.proofs.WellFormedSteps.{continuations-grow, continuing, called, allCalled, table-called, sequence-whole}
+use Rattle.unicode.proofs.FirstIllFormed.{pass, step, stop, ascii-sequence}
 
 -- ---- a sequence is told by the bytes that its first byte calls for
 
-starts-alike : (row : List (ℕ × ℕ)) (x x′ : List ℕ) → take (length row) x ≡ take (length row) x′ → startsWith row x ≡ startsWith row x′
-unfolding startsWith
+starts-alike : (row : List (ℕ × ℕ)) (x x′ : List ℕ) → take (length row) x ≡ take (length row) x′ → fitsRow row x ≡ fitsRow row x′
+unfolding fitsRow
 starts-alike [] x x′ e = refl
 starts-alike (range ∷ row) [] [] e = refl
 starts-alike (range ∷ row) [] (c ∷ x′) e = absurd (let z : _≡_ {A = ℕ} 0 1 = cc in let y : ⊥ = omega arith in y)
@@ -29,15 +29,15 @@ starts-alike (range ∷ row) (c ∷ x) (d ∷ x′) e =
     let j : take (length row) x ≡ take (length row) x′ = cc in
     rw (i, starts-alike row x x′ j)
 
-row-alike : (row : List (ℕ × ℕ)) (b : ℕ) (x x′ : List ℕ) → called row ≡ true → take (continuations b) x ≡ take (continuations b) x′ → startsWith row (b ∷ x) ≡ startsWith row (b ∷ x′)
-unfolding startsWith within
+row-alike : (row : List (ℕ × ℕ)) (b : ℕ) (x x′ : List ℕ) → called row ≡ true → take (continuations b) x ≡ take (continuations b) x′ → fitsRow row (b ∷ x) ≡ fitsRow row (b ∷ x′)
+unfolding fitsRow within
 row-alike [] b x x′ c e = absurd (false≢true c)
 row-alike (range ∷ row) b x x′ c e =
     let both = and-eq-true-iff (eqb (continuations (range .0)) (length row) && eqb (continuations (range .1)) (length row)) (continuing row) .0 c in
     let ends = and-eq-true-iff (eqb (continuations (range .0)) (length row)) (eqb (continuations (range .1)) (length row)) .0 (both .0) in
     go (leb (range .0) b) (leb b (range .1)) refl refl (ends .0) (ends .1)
   where
-    go : (t u : Bool) → leb (range .0) b ≡ t → leb b (range .1) ≡ u → eqb (continuations (range .0)) (length row) ≡ true → eqb (continuations (range .1)) (length row) ≡ true → ((t && u) && startsWith row x) ≡ ((t && u) && startsWith row x′)
+    go : (t u : Bool) → leb (range .0) b ≡ t → leb b (range .1) ≡ u → eqb (continuations (range .0)) (length row) ≡ true → eqb (continuations (range .1)) (length row) ≡ true → ((t && u) && fitsRow row x) ≡ ((t && u) && fitsRow row x′)
     go true true f g l h =
         let low = eqb-true (continuations (range .0)) (length row) l in
         let high = eqb-true (continuations (range .1)) (length row) h in
@@ -132,6 +132,3 @@ ascii-before b y h w =
     let s = step (b ∷ y) 0 q in
     let all = leb-true (length y) (wellFormedFrom 0 y) w in
     le-leb (length (b ∷ y)) (wellFormedFrom 0 (b ∷ y)) (omega (arith, s, all))
-  where
-    ascii-sequence : (b : ℕ) (s : List ℕ) → b < 0x80 → sequenceLength (b ∷ s) ≡ 1
-    ascii-sequence b s h = unfold sequenceLength in unfold sequenceIn in unfold table-3-7 in unfold startsWith in unfold within in rw (le-leb 0x00 b zero-le, le-leb b 0x7F (omega arith))

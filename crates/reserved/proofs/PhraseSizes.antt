@@ -1,28 +1,26 @@
 -- Every reserved word is at least one byte, lies inside the rest, and has its alias inside it.
 -- Assumes nothing.
-use Prim.Native.Nat.{ℕ, zero, suc, _+_, _-_, _≤_, _<_, zero-le, suc-le-suc}
-use native.Mathlib.Nat.{le-refl, le-trans}
-use native.Mathlib.Omega.{arith}
-use mathlib.Core.Path.{_≡_, refl, sym, ap, _∙_}
+use Prim.Native.Nat.{ℕ, _-_, _≤_}
+use native.Mathlib.Nat.{le-refl}
+use mathlib.Core.Path.{_≡_, refl}
 use mathlib.Core.List.{List, [], _∷_}
-use mathlib.Core.Bool.{Bool, true, false, cond, not, _&&_, _||_, false≢true}
-use lib.ListN.{length, drop, take}
+use mathlib.Core.Bool.{Bool, true, false, cond, not, _&&_, _||_, false≢true, and-eq-true-iff}
+use lib.ListN.{length, take}
 use lib.Dec.{eqb}
 use lib.Seq.{length-take-le}
 use Rattle.recognisers.specs.declared.Taken.{Taken}
 use Rattle.recognisers.specs.declared.Taken.the-variants.{Bytes, Fails}
-use Rattle.recognisers.specs.declared.TokenKind.{TokenKind}
 use Rattle.recognisers.specs.declared.TokenKind.the-variants as K
-use Rattle.recognisers.specs.declared.Key.the-variants.{None}
 use Rattle.recognisers.specs.declared.Recognised.{Recognised}
-use Rattle.recognisers.specs.declared.Recognised.the-variants.{Token, Nothing}
+use Rattle.recognisers.specs.declared.Recognised.the-variants.{Nothing}
 use Rattle.recognisers.specs.Text.{byte, bytes}
-use Rattle.recognisers.specs.Taking.{Part, taken, more, or, done, one, typed, capital, isSpelled, blanks, endOfWord}
-use Rattle.recognisers.specs.Pieces.{piece, tokenOf, alt}
-use Rattle.recognisers.proofs.Inside.{Inside, or-inside, end-of-word-inside}
-use Rattle.recognisers.proofs.Sizes.{Least, or-least, one-some, Sized, alt-sized, Takes, or-takes, fails-takes, takes-sized}
+use Rattle.recognisers.specs.Taking.{Part, one, typed, capital, isSpelled, blanks, endOfWord}
+use Rattle.recognisers.specs.Pieces.{tokenOf, alt}
+use Rattle.recognisers.proofs.Spelling.{spelled-fits}
+use Rattle.recognisers.proofs.TakenInside.{Inside, end-of-word-inside}
+use Rattle.recognisers.proofs.PieceSizes.{Least, one-some, Sized, alt-sized, Takes, or-takes, fails-takes, takes-sized}
 use Rattle.reserved.specs.declared.TopLevel.{TopLevel}
-use Rattle.reserved.specs.Phrases.{Phrase, phrase, phraseIfExists, walk, optional, phraseEnd, firstPhrase, each}
+use Rattle.reserved.specs.Phrases.{Phrase, phrase, phraseIfExists, walk, phraseEnd, firstPhrase, each}
 use Rattle.reserved.specs.Entries.{ifExists}
 use Rattle.reserved.specs.TopLevel.{creatable, alterableOrDroppable, eachDropped, topLevelPhrases}
 use Rattle.reserved.specs.NewlineAfter.{newlineAfterPhrases}
@@ -30,9 +28,8 @@ use Rattle.reserved.specs.Newline.{newlinePhrases}
 use Rattle.reserved.specs.Join.{joinPhrases}
 use Rattle.reserved.specs.NoIndent.{noIndentPhrases}
 use Rattle.reserved.specs.Plain.{plainTwoPhrases, plainA, plainB, plainC, plainD, plainE, plainF, plainG, plainH, plainI, plainK, plainL, plainM, plainN, plainO, plainP, plainQ, plainR, plainS, plainT, plainU, plainV, plainW, plainY, plainOnePhrases}
-use Rattle.recognisers.specs.Same.{same}
-use Rattle.reserved.specs.Reserved.{topLevelKind, aliasLength, topLevelToken, newlineToken, getTopLevelReservedToken, getNewlineAfterReservedToken, getNewlineReservedToken, getJoinToken, getTopLevelReservedTokenNoIndent, getPlainReservedToken, mayBeReserved, getReservedWordToken}
-use Rattle.reserved.proofs.Walking.{walk-inside, exists-inside}
+use Rattle.reserved.specs.Reserved.{aliasLength, topLevelToken, newlineToken, getTopLevelReservedToken, getNewlineAfterReservedToken, getNewlineReservedToken, getJoinToken, getTopLevelReservedTokenNoIndent, getPlainReservedToken, mayBeReserved, getReservedWordToken}
+use Rattle.reserved.proofs.PhraseWalk.{walk-inside, exists-inside}
 
 -- a phrase begins with a byte that is no space
 abbrev begins : List ℕ → Bool
@@ -46,14 +43,6 @@ wordsOf (phraseIfExists words) = words
 abbrev allBegin : List Phrase → Bool
 allBegin [] = true
 allBegin (p ∷ phrases) = begins (wordsOf p) && allBegin phrases
-
-both-left : (a b : Bool) → (a && b) ≡ true → a ≡ true
-both-left true b e = refl
-both-left false b e = absurd (false≢true e)
-
-both-right : (a b : Bool) → (a && b) ≡ true → b ≡ true
-both-right true b e = e
-both-right false b e = absurd (false≢true e)
 
 walk-some : (words : List ℕ) (then : Part) → begins words ≡ true → (s : List ℕ) → Least 1 (walk words then s)
 unfolding walk
@@ -76,16 +65,10 @@ first-takes : (phrases : List Phrase) → allBegin phrases ≡ true → (s : Lis
 unfolding firstPhrase
 first-takes [] e s = fails-takes 1 s
 first-takes (p ∷ phrases) e s =
-    or-takes 1 s (phraseEnd p s) (firstPhrase phrases s) (phrase-takes p (both-left (begins (wordsOf p)) (allBegin phrases) e) s)
-    (first-takes phrases (both-right (begins (wordsOf p)) (allBegin phrases) e) s)
+    or-takes 1 s (phraseEnd p s) (firstPhrase phrases s) (phrase-takes p (and-eq-true-iff (begins (wordsOf p)) (allBegin phrases) .0 e .0) s)
+    (first-takes phrases (and-eq-true-iff (begins (wordsOf p)) (allBegin phrases) .0 e .1) s)
 
 -- ---- the alias
-
-spelled-fits : (form : ℕ → ℕ) (w v : List ℕ) → isSpelled form w v ≡ true → length w ≤ length v
-unfolding isSpelled
-spelled-fits form [] v e = zero-le
-spelled-fits form (x ∷ w) [] e = absurd (false≢true e)
-spelled-fits form (x ∷ w) (b ∷ v) e = suc-le-suc (spelled-fits form w v (both-right (eqb (form b) x) (isSpelled form w v) e))
 
 alias-fits : (v : List ℕ) → aliasLength v ≤ length v
 unfolding aliasLength

@@ -3,16 +3,15 @@
 use Prim.Native.Nat.{ℕ, zero, suc, _+_, _-_, _^_, _≤_, _<_, min, zero-le}
 use native.Mathlib.Nat.{le-refl, le-trans, min-le-left}
 use native.Mathlib.Omega.{arith}
-use mathlib.Core.Path.{_≡_, refl, sym, ap, _∙_}
+use mathlib.Core.Path.{_≡_, refl}
 use mathlib.Core.List.{List, [], _∷_}
 use mathlib.Core.Bool.{Bool, true, false, cond, _||_, false≢true}
 use lib.ListN.{length, drop, take, getD}
 use lib.Dec.{leb, ltb, eqb}
 use borrow.Author.Tests.{leb-true, ltb-true}
 use Rattle.unicode.specs.Character.{characterLength}
-use Rattle.unicode.specs.Classes.{isWhitespace, isWordCharacter, isPlaceholderNameCharacter}
+use Rattle.unicode.specs.Classes.{isWhitespace, isWordCharacter}
 use Rattle.unicode.specs.Runs.{inClass, run}
-use Rattle.unicode.specs.declared.Class.{Class}
 use Rattle.unicode.specs.declared.Class.the-variants as C
 use Rattle.unicode.proofs.RunLaws.{run-inside, character-inside}
 use Rattle.recognisers.specs.declared.Taken.{Taken}
@@ -30,7 +29,7 @@ use Rattle.recognisers.specs.declared.Recognised.{Recognised}
 use Rattle.recognisers.specs.declared.Recognised.the-variants.{Token, Nothing}
 use Rattle.recognisers.specs.Text.{byte, bytes}
 use Rattle.recognisers.specs.Taking.{Part, taken, more, or, done, one, spelled, typed, capital, blanks, endOfWord, digit0, digit1, count, isDigit, atLeast, contains, startsWith}
-use Rattle.recognisers.specs.Pieces.{piece, tokenOf, alt, keyStart}
+use Rattle.recognisers.specs.Pieces.{tokenOf, alt, keyStart}
 use Rattle.recognisers.specs.Comment.{tillLineEnding, throughBlockEnd, getCommentToken}
 use Rattle.recognisers.specs.TypeSpecifier.{getTypeSpecifierToken}
 use Rattle.recognisers.specs.Strings.{closedBy, inSQLServer, hexPart, quotedPart, stringPart, getStringToken, placeholderQuotedPart, placeholderStringPart}
@@ -38,12 +37,12 @@ use Rattle.recognisers.specs.Parens.{inPostgreSql, getOpenParenToken, ge
 use Rattle.recognisers.specs.Number.{decimalNumber, exponent, scientificNotation, unsigned, getNumberToken}
 use Rattle.recognisers.specs.Placeholder.{keyed, numberFrom, numberOf, indexed, indexedKey, indexedPart, getIndexedPlaceholderToken, placeholderName, identPart, getIdentNamedPlaceholderToken, bracedText, bracedPart, getBracedNamedPlaceholderToken, hasEscape, stringKey, stringNamedPart, getStringNamedPlaceholderToken, getPlaceholderToken}
 use Rattle.recognisers.specs.Words.{getWhitespaceToken, isOperator, getOperatorToken, getWordToken, getAnyOtherChar}
-use Rattle.recognisers.proofs.Counting.{count-inside}
-use Rattle.recognisers.proofs.Inside.{Inside, cond-inside, or-inside, done-inside, one-inside, spelled-inside, end-of-word-inside}
-use Rattle.recognisers.proofs.Comments.{line-inside, block-inside}
-use Rattle.recognisers.proofs.Quotes.{quoted-inside}
-use Rattle.recognisers.proofs.Blanks.{blanks-inside, word-inside}
-use Rattle.recognisers.proofs.Digits.{exponent-inside, decimal-inside, digits-inside, unsigned-inside}
+use Rattle.recognisers.proofs.ByteLoops.{count-inside}
+use Rattle.recognisers.proofs.TakenInside.{Inside, cond-inside, or-inside, done-inside, one-inside, spelled-inside, end-of-word-inside}
+use Rattle.recognisers.proofs.CommentLoops.{line-inside, block-inside}
+use Rattle.recognisers.proofs.ClosingQuote.{quoted-inside}
+use Rattle.recognisers.proofs.Blanks.{blanks-inside}
+use Rattle.recognisers.proofs.Digits.{digits-inside, unsigned-inside}
 use Rattle.recognisers.proofs.PlaceholderLaws.{name-inside, placeholder-string-inside, braced-inside}
 
 -- ---- what a part takes: so many bytes at least

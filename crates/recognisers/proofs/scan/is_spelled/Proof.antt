@@ -3,8 +3,8 @@ use lib.ListN.{length}
 use borrow.Author.Needs.{needs}
 use Rattle.recognisers.specs.Taking.{typed}
 use Rattle.recognisers.proofs.Spelling.{SpelledAt, spelled-short, spelled-start, typed-more, typed-not, spelled-end}
-use Rattle.recognisers.proofs.scan.starts_with.Statement.{statement}
-use Rattle.recognisers.proofs.scan.starts_with.Tie as tie
+use Rattle.recognisers.proofs.scan.is_spelled.Statement.{statement}
+use Rattle.recognisers.proofs.scan.is_spelled.Tie as tie
 
 abbrev Inv-loop : tie.InvT-loop
 Inv-loop rest word i₀ i = SpelledAt typed word rest i
@@ -39,8 +39,8 @@ returns-2 c = search typed-not
 returns-3 : tie.Need-returns-3 Inv-loop μ-loop
 returns-3 c = search (spelled-end typed)
 
-pub starts-with-spec : {M : Type 1} → statement M
-starts-with-spec =
+pub is-spelled-spec : {M : Type 1} → statement M
+is-spelled-spec =
     tie.close
     (tie.spec
     Inv-loop

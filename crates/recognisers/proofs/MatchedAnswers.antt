@@ -1,10 +1,9 @@
 -- Answers taken apart and put together, as a `match` has them.
 -- Assumes nothing.
 use Prim.Native.Nat.{ℕ, _+_, _^_, _<_}
-use native.Mathlib.Omega.{arith}
-use mathlib.Core.Path.{_≡_, sym, _∙_}
+use mathlib.Core.Path.{_≡_, _∙_}
 use mathlib.Core.List.{List}
-use mathlib.Core.Bool.{Bool, true, false, cond, _&&_, _||_}
+use mathlib.Core.Bool.{Bool, true, false, cond, _||_}
 use lib.ListN.{drop}
 use mir.Syntax.{w64}
 use mir.Val.{Fits}
@@ -50,14 +49,6 @@ module _ (s : List ℕ) (x : Character) (r : Bool) (q : x ≡ character (drop 0 
   unfolding endOfWord
   word-ends t = rw (← says, t)
 
--- `a && b` in code: the second is asked only where the first says yes
-module _ (a b r : Bool) (e : r ≡ a) where
-  pub and-first : r ≡ false → r ≡ (a && b)
-  and-first t = rw (← e, t)
-
-  pub and-second : (q : Bool) → r ≡ true → q ≡ b → q ≡ (a && b)
-  and-second q t f = rw (← e, t) f
-
 pub alt-token : (a b : Recognised) (p : Piece) → a ≡ Token p → Token p ≡ alt a b
 alt-token a b p e = rw e
 
@@ -70,14 +61,6 @@ module _ {A : Type 0} (t : Bool) (x y r : A) where
 
   pub cond-no : t ≡ false → r ≡ y → r ≡ cond t x y
   cond-no e q = rw e q
-
--- `a || b` in code: the second is asked only where the first says no
-module _ (a b r : Bool) (e : r ≡ a) where
-  pub or-first : r ≡ true → r ≡ (a || b)
-  or-first t = rw (← e, t)
-
-  pub or-second : (q : Bool) → r ≡ false → q ≡ b → q ≡ (a || b)
-  or-second q t f = rw (← e, t) f
 
 -- `get_any_other_char`
 module _ (s : List ℕ) (r : Bool) (e : r ≡ (startsWith 10 s || startsWith 13 s)) where

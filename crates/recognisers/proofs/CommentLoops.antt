@@ -1,10 +1,10 @@
 -- The loops of `get_comment_token`.
 -- Assumes nothing.
-use Prim.Native.Nat.{ℕ, zero, suc, _+_, _-_, _≤_, _<_, zero-le, suc-le-suc}
-use native.Mathlib.Nat.{le-refl, add-zero, add-assoc}
+use Prim.Native.Nat.{ℕ, suc, _+_, _-_, _≤_, _<_, zero-le}
+use native.Mathlib.Nat.{add-zero}
 use native.Mathlib.Numerals.{add-one}
 use native.Mathlib.Omega.{arith}
-use mathlib.Core.Path.{_≡_, refl, sym, ap, _∙_}
+use mathlib.Core.Path.{_≡_, sym, ap, _∙_}
 use mathlib.Core.List.{List, [], _∷_}
 use mathlib.Core.Bool.{Bool, true, false, cond, _&&_}
 use lib.ListN.{length, drop, getD, drop-of-length-le}
@@ -16,7 +16,7 @@ use Rattle.recognisers.specs.declared.Taken.the-variants.{Bytes, Fails}
 use Rattle.recognisers.specs.Taking.{Part, taken, more, startsWith}
 use Rattle.recognisers.specs.Comment.{tillLineEnding, throughBlockEnd}
 use Rattle.recognisers.proofs.Spelling.{more-zero, more-more}
-use Rattle.recognisers.proofs.Inside.{Inside}
+use Rattle.recognisers.proofs.TakenInside.{Inside}
 
 -- i bytes are passed of what a part takes
 pub record PassedAt (part : Part) (s : List ℕ) (i : ℕ) : Type 0 where

@@ -5,23 +5,22 @@
 --     ascii-outside          no byte of a character after its first is ASCII, on any bytes
 --     ill-formed-nowhere     a text has no first ill-formed sequence exactly where it is well formed
 -- Assumes nothing.
-use Prim.Native.Nat.{ℕ, zero, suc, _+_, _-_, _≤_, _<_, zero-le, suc-le-suc}
-use native.Mathlib.Nat.{le-refl, le-trans, le-antisymm, le-of-suc-le-suc, not-suc-le-zero, zero-add}
+use Prim.Native.Nat.{ℕ, zero, suc, _-_, _≤_, _<_, zero-le}
+use native.Mathlib.Nat.{le-trans, le-of-suc-le-suc, not-suc-le-zero}
 use native.Mathlib.Omega.{arith}
 use mathlib.Core.Path.{_≡_, refl, sym, ap, _∙_}
 use mathlib.Core.Logic.{_↔_}
 use mathlib.Core.List.{List, [], _∷_}
-use mathlib.Core.Bool.{Bool, true, false, cond, _&&_, true≢false, false≢true, and-eq-true-iff}
+use mathlib.Core.Bool.{Bool, true, false, cond, _&&_, false≢true, and-eq-true-iff}
 use lib.ListN.{length, drop, getD, length-drop}
 use lib.Dec.{ltb, leb, eqb}
-use borrow.Author.Tests.{lt-ltb, le-ltb, le-leb, leb-true, ltb-true, ltb-false, eqb-true}
-use Rattle.unicode.specs.declared.IllFormed.{IllFormed}
+use borrow.Author.Tests.{le-ltb, le-leb, leb-true, ltb-true, ltb-false, eqb-true}
 use Rattle.unicode.specs.declared.IllFormed.the-variants.{At, Nowhere}
 use Rattle.unicode.specs.Ranges.{within}
-use Rattle.unicode.specs.Utf8.{table-3-7, startsWith, sequenceIn, sequenceLength, wellFormedFrom, firstIllFormed, wellFormed}
+use Rattle.unicode.specs.Utf8.{table-3-7, fitsRow, sequenceIn, sequenceLength, wellFormedFrom, firstIllFormed, wellFormed}
 use Rattle.unicode.specs.Character.{isContinuation, continuations, continued, characterLength}
-use Rattle.unicode.proofs.Sequences.{Rows}
-use Rattle.unicode.proofs.Validation.{sequence-inside, step, stop}
+use Rattle.unicode.proofs.SequenceRows.{Rows}
+use Rattle.unicode.proofs.FirstIllFormed.{sequence-inside, step, stop}
 
 -- ---- first bytes and continuation bytes
 
@@ -50,14 +49,14 @@ abbrev pub continuing : List (ℕ × ℕ) → Bool
 continuing [] = true
 continuing (range ∷ row) = (leb 0x80 (range .0) && leb (range .1) 0xBF) && continuing row
 
-starts-continued : (row : List (ℕ × ℕ)) (s : List ℕ) → continuing row ≡ true → startsWith row s ≡ true → continued (length row) s ≡ length row
-unfolding startsWith continued within isContinuation
+starts-continued : (row : List (ℕ × ℕ)) (s : List ℕ) → continuing row ≡ true → fitsRow row s ≡ true → continued (length row) s ≡ length row
+unfolding fitsRow continued within isContinuation
 starts-continued [] s c e = refl
 starts-continued (range ∷ row) [] c e = absurd (false≢true e)
 starts-continued (range ∷ row) (b ∷ s) c e =
     let c₂ = and-eq-true-iff (leb 0x80 (range .0) && leb (range .1) 0xBF) (continuing row) .0 c in
     let c₃ = and-eq-true-iff (leb 0x80 (range .0)) (leb (range .1) 0xBF) .0 (c₂ .0) in
-    let e₂ = and-eq-true-iff (leb (range .0) b && leb b (range .1)) (startsWith row s) .0 e in
+    let e₂ = and-eq-true-iff (leb (range .0) b && leb b (range .1)) (fitsRow row s) .0 e in
     let e₃ = and-eq-true-iff (leb (range .0) b) (leb b (range .1)) .0 (e₂ .0) in
     let low : 0x80 ≤ b = le-trans (leb-true 0x80 (range .0) (c₃ .0)) (leb-true (range .0) b (e₃ .0)) in
     let high : b ≤ 0xBF = le-trans (leb-true b (range .1) (e₃ .1)) (leb-true (range .1) 0xBF (c₃ .1)) in
@@ -78,8 +77,8 @@ pub record Whole (b : ℕ) (s : List ℕ) (n : ℕ) : Type 0 where
   pub calls : continuations b ≡ n
   pub follow : continued n s ≡ n
 
-row-whole : (row : List (ℕ × ℕ)) (b : ℕ) (s : List ℕ) (n : ℕ) → called row ≡ true → startsWith row (b ∷ s) ≡ true → length row ≡ suc n → Whole b s n
-unfolding startsWith within
+row-whole : (row : List (ℕ × ℕ)) (b : ℕ) (s : List ℕ) (n : ℕ) → called row ≡ true → fitsRow row (b ∷ s) ≡ true → length row ≡ suc n → Whole b s n
+unfolding fitsRow within
 row-whole [] b s n c e l = absurd (false≢true c)
 row-whole (range ∷ row) b s n c e l =
     let m : length row ≡ n = omega arith in
@@ -87,7 +86,7 @@ row-whole (range ∷ row) b s n c e l =
     let c₃ = and-eq-true-iff (eqb (continuations (range .0)) (length row)) (eqb (continuations (range .1)) (length row)) .0 (c₂ .0) in
     let low = eqb-true (continuations (range .0)) (length row) (c₃ .0) in
     let high = eqb-true (continuations (range .1)) (length row) (c₃ .1) in
-    let e₂ = and-eq-true-iff (leb (range .0) b && leb b (range .1)) (startsWith row s) .0 e in
+    let e₂ = and-eq-true-iff (leb (range .0) b && leb b (range .1)) (fitsRow row s) .0 e in
     let e₃ = and-eq-true-iff (leb (range .0) b) (leb b (range .1)) .0 (e₂ .0) in
     let from = continuations-grow (range .0) b (leb-true (range .0) b (e₃ .0)) in
     let to = continuations-grow b (range .1) (leb-true b (range .1) (e₃ .1)) in
@@ -98,9 +97,9 @@ unfolding sequenceIn
 rows-whole [] b s n c e = absurd (let z : ⊥ = omega arith in z)
 rows-whole (row ∷ rows) b s n c e =
     let c₂ = and-eq-true-iff (called row) (allCalled rows) .0 c in
-    go (startsWith row (b ∷ s)) refl (c₂ .0) (λ q. rows-whole rows b s n (c₂ .1) q)
+    go (fitsRow row (b ∷ s)) refl (c₂ .0) (λ q. rows-whole rows b s n (c₂ .1) q)
   where
-    go : (t : Bool) → startsWith row (b ∷ s) ≡ t → called row ≡ true → (sequenceIn rows (b ∷ s) ≡ suc n → Whole b s n) → Whole b s n
+    go : (t : Bool) → fitsRow row (b ∷ s) ≡ t → called row ≡ true → (sequenceIn rows (b ∷ s) ≡ suc n → Whole b s n) → Whole b s n
     go true q c₁ rest = row-whole row b s n c₁ q (rw q at e)
     go false q c₁ rest = rest (rw q at e)
 

@@ -13,8 +13,8 @@ use Rattle.unicode.specs.Ranges.{within}
 use Rattle.unicode.specs.Character.{isContinuation, continuations, continued, characterLength, codePoint}
 use Rattle.unicode.specs.Runs.{run}
 use Rattle.unicode.specs.Utf8.{sequenceLength, wellFormedFrom, wellFormed}
-use Rattle.unicode.proofs.Characters.{sequence-whole, well-formed-step}
-use Rattle.unicode.proofs.Validation.{pass, step, stop, sequence-inside}
+use Rattle.unicode.proofs.WellFormedSteps.{sequence-whole, well-formed-step}
+use Rattle.unicode.proofs.FirstIllFormed.{pass, step, stop, sequence-inside}
 
 pub end-formed : wellFormed [] ≡ true
 unfolding wellFormed wellFormedFrom

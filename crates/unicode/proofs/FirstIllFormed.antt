@@ -1,39 +1,39 @@
 -- One pass finds the first ill-formed sequence.
 -- Assumes nothing.
 use Prim.Native.Nat.{ℕ, zero, suc, _+_, _-_, _^_, _≤_, _<_, zero-le, suc-le-suc}
-use native.Mathlib.Nat.{le-refl, le-trans, le-of-suc-le-suc, not-suc-le-zero, add-zero, zero-add, suc-add, add-assoc}
+use native.Mathlib.Nat.{le-trans, le-of-suc-le-suc, not-suc-le-zero, add-zero, zero-add, suc-add, add-assoc}
 use native.Mathlib.Omega.{arith}
 use mathlib.Core.Path.{_≡_, refl, sym, ap, _∙_}
 use mathlib.Core.List.{List, [], _∷_}
-use mathlib.Core.Bool.{Bool, true, false, cond, _&&_, false≢true, and-eq-true-iff}
-use lib.ListN.{length, drop, take, drop-of-length-le, length-drop}
-use lib.Seq.{take-all, drop-drop}
-use lib.Dec.{ltb, leb}
+use mathlib.Core.Bool.{Bool, true, false, cond, false≢true, and-eq-true-iff}
+use lib.ListN.{length, drop, take, length-drop}
+use lib.Seq.{drop-drop}
+use lib.Dec.{ltb}
 use mir.Syntax.{w64}
 use mir.Val.{Fits}
 use borrow.Author.Tests.{lt-ltb, le-ltb, le-leb, ltb-true}
-use Rattle.unicode.specs.declared.IllFormed.{IllFormed}
 use Rattle.unicode.specs.declared.IllFormed.the-variants.{At, Nowhere}
 use Rattle.unicode.specs.Ranges.{within}
 use Rattle.unicode.specs.Blocks.{asciiRun}
-use Rattle.unicode.specs.Utf8.{table-3-7, startsWith, sequenceIn, sequenceLength, wellFormedFrom, firstIllFormed}
-use Rattle.unicode.proofs.Sequences.{Rows}
+use Rattle.unicode.specs.Utf8.{table-3-7, fitsRow, sequenceIn, sequenceLength, wellFormedFrom, firstIllFormed}
+use Rattle.unicode.proofs.SequenceRows.{Rows}
+use Rattle.unicode.proofs.Rests.{part-end}
 
 -- ---- the sequence lies inside
 
-starts-inside : (row : List (ℕ × ℕ)) (s : List ℕ) → startsWith row s ≡ true → length row ≤ length s
-unfolding startsWith
+starts-inside : (row : List (ℕ × ℕ)) (s : List ℕ) → fitsRow row s ≡ true → length row ≤ length s
+unfolding fitsRow
 starts-inside [] s e = zero-le
 starts-inside (range ∷ row) [] e = absurd (false≢true e)
 starts-inside (range ∷ row) (b ∷ s) e =
-    suc-le-suc (starts-inside row s (and-eq-true-iff (within (range .0) (range .1) b) (startsWith row s) .0 e .1))
+    suc-le-suc (starts-inside row s (and-eq-true-iff (within (range .0) (range .1) b) (fitsRow row s) .0 e .1))
 
 in-inside : (rows : Rows) (s : List ℕ) → sequenceIn rows s ≤ length s
 unfolding sequenceIn
 in-inside [] s = zero-le
-in-inside (row ∷ rows) s = go (startsWith row s) refl (in-inside rows s)
+in-inside (row ∷ rows) s = go (fitsRow row s) refl (in-inside rows s)
   where
-    go : (t : Bool) → startsWith row s ≡ t → sequenceIn rows s ≤ length s → cond (startsWith row s) (length row) (sequenceIn rows s) ≤ length s
+    go : (t : Bool) → fitsRow row s ≡ t → sequenceIn rows s ≤ length s → cond (fitsRow row s) (length row) (sequenceIn rows s) ≤ length s
     go true e h = rw e (starts-inside row s e)
     go false e h = rw e h
 
@@ -71,8 +71,8 @@ unfolding wellFormedFrom
 stop [] e = refl
 stop (b ∷ s) e = rw (e, wellFormedFrom)
 
-ascii-sequence : (b : ℕ) (s : List ℕ) → b < 0x80 → sequenceLength (b ∷ s) ≡ 1
-unfolding sequenceLength sequenceIn table-3-7 startsWith within
+pub ascii-sequence : (b : ℕ) (s : List ℕ) → b < 0x80 → sequenceLength (b ∷ s) ≡ 1
+unfolding sequenceLength sequenceIn table-3-7 fitsRow within
 ascii-sequence b s h = rw (le-leb 0x00 b zero-le, le-leb b 0x7F (omega arith))
 
 pub ascii-pass : (s : List ℕ) → wellFormedFrom 0 s ≡ asciiRun s + wellFormedFrom 0 (drop (asciiRun s) s)
@@ -97,10 +97,6 @@ pub record ValidAt (s : List ℕ) (at : ℕ) : Type 0 where
 
 pub valid-start : (s : List ℕ) → ValidAt s 0
 valid-start s = record { inside = zero-le; same = sym (zero-add (wellFormedFrom 0 s)) }
-
--- a part up to the end
-pub part-end : (s : List ℕ) (k : ℕ) → take (length s - k) (drop k s) ≡ drop k s
-part-end s k = take-all (length s - k) (drop k s) (rw length-drop (le-refl (length s - k)))
 
 module _ (s : List ℕ) (at r : ℕ) (v : ValidAt s at) (e : r ≡ asciiRun (take (length s - at) (drop at s))) where
   run-is : r ≡ asciiRun (drop at s)

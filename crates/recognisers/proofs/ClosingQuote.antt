@@ -1,23 +1,23 @@
 -- The closing quote: the loop of `take_till_escaping`.
 -- Assumes nothing.
-use Prim.Native.Nat.{ℕ, zero, suc, _+_, _-_, _^_, _≤_, _<_, zero-le, suc-le-suc}
-use native.Mathlib.Nat.{le-refl, le-trans, add-zero, not-suc-le-zero}
+use Prim.Native.Nat.{ℕ, suc, _+_, _-_, _^_, _≤_, _<_, zero-le, suc-le-suc}
+use native.Mathlib.Nat.{le-trans, add-zero}
 use native.Mathlib.Numerals.{add-one, add-two}
 use native.Mathlib.Omega.{arith}
 use mathlib.Core.Path.{_≡_, refl, sym, ap, _∙_}
 use mathlib.Core.List.{List, [], _∷_}
 use mathlib.Core.Bool.{Bool, true, false, cond, not, _&&_, false≢true, and-comm, and-eq-true-iff}
 use lib.ListN.{length, drop, take, getD, drop-of-length-le, length-drop}
-use lib.Seq.{drop-cons, drop-drop}
+use lib.Seq.{drop-cons}
 use lib.Dec.{eqb}
 use borrow.Author.Tests.{eq-eqb, ne-eqb}
 use Rattle.recognisers.specs.declared.Taken.{Taken}
 use Rattle.recognisers.specs.declared.Taken.the-variants.{Bytes, Fails}
 use Rattle.recognisers.specs.Taking.{Part, taken, more, typed, isSpelled, spelled, contains, startsWith}
 use Rattle.recognisers.specs.Strings.{takeTillEscaping, closedBy}
-use Rattle.recognisers.proofs.Spelling.{more-zero, more-more, word-fits, word-then, word-not}
-use Rattle.recognisers.proofs.Inside.{Inside, fits-more}
-use Rattle.recognisers.proofs.Comments.{PassedAt, passed-start, passed-more}
+use Rattle.recognisers.proofs.Spelling.{more-more, word-fits, word-then, word-not}
+use Rattle.recognisers.proofs.TakenInside.{Inside, fits-more}
+use Rattle.recognisers.proofs.CommentLoops.{PassedAt, passed-start, passed-more}
 
 -- the byte that stands at the start, so something does
 starts-some : (d : ℕ) (s : List ℕ) → startsWith d s ≡ true → 0 < length s

@@ -1,19 +1,19 @@
 -- What a part takes lies inside the rest.
 -- Assumes nothing.
-use Prim.Native.Nat.{ℕ, zero, suc, _+_, _-_, _^_, _≤_, _<_, zero-le, suc-le-suc}
-use native.Mathlib.Nat.{le-refl, le-trans, le-of-suc-le-suc, not-suc-le-zero}
+use Prim.Native.Nat.{ℕ, suc, _+_, _-_, _^_, _≤_, _<_, zero-le}
+use native.Mathlib.Nat.{le-refl}
 use native.Mathlib.Omega.{arith}
-use mathlib.Core.Path.{_≡_, refl, sym, ap, _∙_}
+use mathlib.Core.Path.{_≡_}
 use mathlib.Core.List.{List, [], _∷_}
 use mathlib.Core.Bool.{Bool, true, false, cond}
 use lib.ListN.{length, drop, take, length-drop}
 use lib.Dec.{leb, eqb}
 use Rattle.recognisers.specs.declared.Taken.{Taken}
 use Rattle.recognisers.specs.declared.Taken.the-variants.{Bytes, Fails}
-use Rattle.recognisers.specs.Taking.{Part, taken, more, or, done, one, spelled, endOfWord, digit1, digit0, count, isDigit, atLeast, blanks}
-use Rattle.recognisers.proofs.Counting.{count-inside}
-use Rattle.recognisers.proofs.Spelling.{part-end}
-use Rattle.unicode.specs.Classes.{isWhitespace, isWordCharacter}
+use Rattle.recognisers.specs.Taking.{Part, taken, more, or, done, one, spelled, endOfWord, digit1, digit0, count, isDigit}
+use Rattle.recognisers.proofs.ByteLoops.{count-inside}
+use Rattle.unicode.proofs.Rests.{part-end}
+use Rattle.unicode.specs.Classes.{isWordCharacter}
 use Rattle.unicode.specs.Character.{codePoint}
 
 abbrev pub Inside : Part → Type 0

@@ -3,8 +3,8 @@ use lib.ListN.{length}
 use borrow.Author.Needs.{needs}
 use Rattle.recognisers.specs.Taking.{capital}
 use Rattle.recognisers.proofs.Spelling.{SpelledAt, spelled-short, spelled-start, spelled-more, spelled-not, spelled-end}
-use Rattle.recognisers.proofs.scan.starts_with_caseless.Statement.{statement}
-use Rattle.recognisers.proofs.scan.starts_with_caseless.Tie as tie
+use Rattle.recognisers.proofs.scan.is_spelled_caseless.Statement.{statement}
+use Rattle.recognisers.proofs.scan.is_spelled_caseless.Tie as tie
 
 abbrev Inv-loop : tie.InvT-loop
 Inv-loop rest word i₀ i = SpelledAt capital word rest i
@@ -42,8 +42,8 @@ returns-2 c = search (spelled-not capital)
 returns-3 : tie.Need-returns-3 Inv-loop μ-loop
 returns-3 c = search (spelled-end capital)
 
-pub starts-with-caseless-spec : {M : Type 1} → statement M
-starts-with-caseless-spec =
+pub is-spelled-caseless-spec : {M : Type 1} → statement M
+is-spelled-caseless-spec =
     tie.close
     (tie.spec
     Inv-loop

@@ -1,28 +1,25 @@
 -- The first entry makes the token that the six recognisers, tried in turn, make.
 -- Assumes nothing.
-use Prim.Native.Nat.{ℕ, zero, suc, _+_, _-_, _^_, _≤_, _<_, zero-le, suc-le-suc}
+use Prim.Native.Nat.{ℕ, _+_, _-_, _≤_}
 use native.Mathlib.Omega.{arith}
 use mathlib.Core.Path.{_≡_, refl, sym, ap, _∙_}
 use mathlib.Core.List.{List, [], _∷_, _++_}
-use mathlib.Core.Bool.{Bool, true, false, cond, not, _&&_, _||_, false≢true, and-eq-true-iff, and-false}
-use lib.ListN.{length, drop, take, getD}
-use lib.Dec.{leb, eqb}
-use borrow.Author.Tests.{eq-eqb, ne-eqb}
+use mathlib.Core.Bool.{Bool, true, false, false≢true}
+use lib.ListN.{length, getD}
+use lib.Dec.{eqb}
 use Rattle.unicode.specs.Ranges.{within}
 use Rattle.recognisers.specs.declared.Taken.{Taken}
 use Rattle.recognisers.specs.declared.Taken.the-variants.{Bytes, Fails}
-use Rattle.recognisers.specs.declared.TokenKind.{TokenKind}
-use Rattle.recognisers.specs.declared.TokenKind.the-variants.{Reserved, ReservedTopLevel, ReservedTopLevelNoIndent, ReservedNewline, ReservedNewlineAfter, Join}
+use Rattle.recognisers.specs.declared.TokenKind.the-variants.{Reserved, ReservedTopLevelNoIndent, ReservedNewlineAfter, Join}
 use Rattle.recognisers.specs.declared.Recognised.{Recognised}
 use Rattle.recognisers.specs.declared.Recognised.the-variants as R
-use Rattle.recognisers.specs.Text.{byte, bytes}
-use Rattle.recognisers.specs.Taking.{taken, typed, isSpelled, or, capital, startsWith}
+use Rattle.recognisers.specs.Taking.{taken, or, capital}
 use Rattle.recognisers.specs.Pieces.{tokenOf, alt}
 use Rattle.reserved.specs.declared.TopLevel.{TopLevel}
-use Rattle.reserved.specs.declared.Found.{Found}
-use Rattle.reserved.specs.declared.Found.the-variants.{Entry, Nothing}
-use Rattle.reserved.specs.Phrases.{Phrase, phrase, phraseIfExists, phraseEnd, firstPhrase, each}
-use Rattle.reserved.specs.TopLevel.{topLevelPhrases, creatable, alterableOrDroppable, eachDropped}
+use Rattle.reserved.specs.declared.FoundPhrase.{FoundPhrase}
+use Rattle.reserved.specs.declared.FoundPhrase.the-variants.{Entry, Nothing}
+use Rattle.reserved.specs.Phrases.{Phrase, phrase, phraseIfExists, phraseEnd, firstPhrase}
+use Rattle.reserved.specs.TopLevel.{topLevelPhrases}
 use Rattle.reserved.specs.NewlineAfter.{newlineAfterPhrases}
 use Rattle.reserved.specs.Newline.{newlinePhrases}
 use Rattle.reserved.specs.Join.{joinPhrases}
@@ -30,20 +27,20 @@ use Rattle.reserved.specs.NoIndent.{noIndentPhrases}
 use Rattle.reserved.specs.Plain.{plainTwoPhrases, plainOnePhrases, plainA, plainB, plainC, plainD, plainE, plainF, plainG, plainH, plainI, plainK, plainL, plainM, plainN, plainO, plainP, plainQ, plainR, plainS, plainT, plainU, plainV, plainW, plainY}
 use Rattle.reserved.specs.Entries.{grouped, entries, ifExists, ending, entryEnd, chosen, findEntry, tokenFor}
 use Rattle.reserved.specs.Reserved.{topLevelToken, newlineToken, getTopLevelReservedToken, getNewlineAfterReservedToken, getNewlineReservedToken, getJoinToken, getTopLevelReservedTokenNoIndent, getPlainReservedToken, mayBeReserved, getReservedWordToken}
-use Rattle.reserved.proofs.Walking.{walk-inside, ending-inside}
+use Rattle.reserved.proofs.PhraseWalk.{walk-inside, ending-inside}
 
 -- ---- one list after another
 
-abbrev orFound : Found → Found → Found
-orFound (Entry group n) other = Entry group n
-orFound Nothing other = other
+abbrev orElse : FoundPhrase → FoundPhrase → FoundPhrase
+orElse (Entry group n) other = Entry group n
+orElse Nothing other = other
 
-find-append : (xs ys : List (ℕ × List ℕ)) (s : List ℕ) → findEntry (xs ++ ys) s ≡ orFound (findEntry xs s) (findEntry ys s)
+find-append : (xs ys : List (ℕ × List ℕ)) (s : List ℕ) → findEntry (xs ++ ys) s ≡ orElse (findEntry xs s) (findEntry ys s)
 unfolding findEntry
 find-append [] ys s = refl
 find-append (x ∷ xs) ys s = rw (find-append xs ys s) (go (entryEnd (x .0) (x .1) s))
   where
-    go : (t : Taken) → chosen (x .0) t (orFound (findEntry xs s) (findEntry ys s)) ≡ orFound (chosen (x .0) t (findEntry xs s)) (findEntry ys s)
+    go : (t : Taken) → chosen (x .0) t (orElse (findEntry xs s) (findEntry ys s)) ≡ orElse (chosen (x .0) t (findEntry xs s)) (findEntry ys s)
     go (Bytes n) = refl
     go Fails = refl
 
@@ -70,24 +67,24 @@ record Makes (between : Bool) (last : TopLevel) (s : List ℕ) (group : ℕ) (ma
   fails : make Fails ≡ R.Nothing
   takes : (n : ℕ) (other : Recognised) → alt (make (Bytes n)) other ≡ make (Bytes n)
 
-group-find : (between : Bool) (last : TopLevel) (s : List ℕ) (group : ℕ) (make : Taken → Recognised) (phrases : List Phrase) (other : Found) → Makes between last s group make phrases
-    → tokenFor between last s (orFound (findEntry (grouped group phrases) s) other) ≡ alt (make (firstPhrase phrases s)) (tokenFor between last s other)
+group-find : (between : Bool) (last : TopLevel) (s : List ℕ) (group : ℕ) (make : Taken → Recognised) (phrases : List Phrase) (other : FoundPhrase) → Makes between last s group make phrases
+    → tokenFor between last s (orElse (findEntry (grouped group phrases) s) other) ≡ alt (make (firstPhrase phrases s)) (tokenFor between last s other)
 unfolding findEntry grouped firstPhrase
 group-find between last s group make [] other m = rw (m .fails)
 group-find between last s group make (phrase words ∷ phrases) other m =
     rw (plain-end group words s (m .plain))
     (go (phraseEnd (phrase words) s) (group-find between last s group make phrases other (record { plain = m .plain; own = m .own; dropped = m .dropped; fails = m .fails; takes = m .takes })))
   where
-    go : (t : Taken) → tokenFor between last s (orFound (findEntry (grouped group phrases) s) other) ≡ alt (make (firstPhrase phrases s)) (tokenFor between last s other)
-        → tokenFor between last s (orFound (chosen group t (findEntry (grouped group phrases) s)) other) ≡ alt (make (or t (firstPhrase phrases s))) (tokenFor between last s other)
+    go : (t : Taken) → tokenFor between last s (orElse (findEntry (grouped group phrases) s) other) ≡ alt (make (firstPhrase phrases s)) (tokenFor between last s other)
+        → tokenFor between last s (orElse (chosen group t (findEntry (grouped group phrases) s)) other) ≡ alt (make (or t (firstPhrase phrases s))) (tokenFor between last s other)
     go (Bytes n) ih = m .own n ∙ sym (m .takes n (tokenFor between last s other))
     go Fails ih = ih
 group-find between last s group make (phraseIfExists words ∷ phrases) other m =
     rw (exists-end words s)
     (go (phraseEnd (phraseIfExists words) s) (group-find between last s group make phrases other (record { plain = m .plain; own = m .own; dropped = λ e. m .dropped refl; fails = m .fails; takes = m .takes })))
   where
-    go : (t : Taken) → tokenFor between last s (orFound (findEntry (grouped group phrases) s) other) ≡ alt (make (firstPhrase phrases s)) (tokenFor between last s other)
-        → tokenFor between last s (orFound (chosen 68 t (findEntry (grouped group phrases) s)) other) ≡ alt (make (or t (firstPhrase phrases s))) (tokenFor between last s other)
+    go : (t : Taken) → tokenFor between last s (orElse (findEntry (grouped group phrases) s) other) ≡ alt (make (firstPhrase phrases s)) (tokenFor between last s other)
+        → tokenFor between last s (orElse (chosen 68 t (findEntry (grouped group phrases) s)) other) ≡ alt (make (or t (firstPhrase phrases s))) (tokenFor between last s other)
     go (Bytes n) ih = m .dropped refl n ∙ sym (m .takes n (tokenFor between last s other))
     go Fails ih = ih
 
@@ -132,7 +129,7 @@ module _ (between : Bool) (last : TopLevel) (s : List ℕ) where
   next group make phrases rest m =
       ap (tokenFor between last s) (find-append (grouped group phrases) rest s) ∙ group-find between last s group make phrases (findEntry rest s) m
 
-  or-nothing : (f : Found) → orFound f Nothing ≡ f
+  or-nothing : (f : FoundPhrase) → orElse f Nothing ≡ f
   or-nothing (Entry group n) = refl
   or-nothing Nothing = refl
 
@@ -203,7 +200,7 @@ found-inside (x ∷ es) s group n e = go (entryEnd (x .0) (x .1) s) refl (found-
         omega arith
     go Fails q rest = rest (rw q at e)
 
-module _ (s : List ℕ) (between : Bool) (last : TopLevel) (f : Found) (e : f ≡ findEntry entries s) where
+module _ (s : List ℕ) (between : Bool) (last : TopLevel) (f : FoundPhrase) (e : f ≡ findEntry entries s) where
   pub entry-length : (group n : ℕ) → f ≡ Entry group n → n ≤ length s
   entry-length group n q = found-inside entries s group n (sym e ∙ q)
 

@@ -1,12 +1,12 @@
 -- A lookup in the part of an ordered table that a code point falls into is a lookup in the whole.
 -- Assumes nothing.
-use Prim.Native.Nat.{ℕ, zero, suc, _+_, _≤_, _<_, zero-le, suc-le-suc}
-use native.Mathlib.Nat.{le-refl, le-trans, lt-of-lt-of-le, lt-of-le-of-lt, le-of-lt, le-suc}
+use Prim.Native.Nat.{ℕ, zero, suc, _≤_, _<_}
+use native.Mathlib.Nat.{le-refl, le-trans, lt-of-lt-of-le, lt-of-le-of-lt}
 use native.Mathlib.Omega.{arith}
-use mathlib.Core.Path.{_≡_, refl, sym, ap, ap₂, _∙_}
+use mathlib.Core.Path.{_≡_, refl, sym, ap, _∙_}
 use mathlib.Core.List.{List, [], _∷_}
 use mathlib.Core.Bool.{Bool, true, false, _&&_, _||_, and-eq-true-iff}
-use lib.ListN.{length, getD, take, drop}
+use lib.ListN.{take, drop}
 use lib.Dec.{leb, ltb, leb·suc-suc}
 use borrow.Author.Tests.{leb-true, ltb-true, le-leb, lt-leb}
 use Rattle.unicode.specs.Ranges.{within, inRanges, ordered, endsOf, inEnds, ascending}

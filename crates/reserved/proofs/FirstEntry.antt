@@ -1,21 +1,21 @@
 -- The first entry of a table is the first of all entries.
 -- Assumes nothing.
-use Prim.Native.Nat.{ℕ, zero, suc, _+_, _-_, _^_, _≤_, _<_, zero-le, suc-le-suc}
-use native.Mathlib.Nat.{le-refl, le-trans, le-of-suc-le-suc, not-suc-le-zero, add-zero, zero-add}
+use Prim.Native.Nat.{ℕ, zero, suc, _+_, _-_, _≤_, _<_, zero-le}
+use native.Mathlib.Nat.{le-of-suc-le-suc, not-suc-le-zero}
 use native.Mathlib.Numerals.{add-one, add-two}
 use native.Mathlib.Omega.{arith}
 use mathlib.Core.Path.{_≡_, refl, sym, ap, _∙_}
 use mathlib.Core.List.{List, [], _∷_, _++_}
-use mathlib.Core.Bool.{Bool, true, false, cond, not, _&&_, _||_, true≢false, false≢true, and-eq-true-iff}
-use lib.ListN.{length, drop, take, getD, drop-of-length-le, length-drop, length-append}
+use mathlib.Core.Bool.{Bool, true, false, cond, not, _&&_, false≢true, and-eq-true-iff}
+use lib.ListN.{length, drop, take, getD, length-drop, length-append}
 use lib.Seq.{drop-cons, drop-drop, take-append-seam, drop-append-seam}
 use lib.Dec.{leb, eqb}
-use borrow.Author.Tests.{eq-eqb, ne-eqb, eqb-true, eqb-false, le-leb, lt-leb, leb-true, leb-false, not-true}
+use borrow.Author.Tests.{ne-eqb, eqb-true, eqb-false, le-leb, lt-leb, leb-true, not-true}
 use Rattle.recognisers.specs.declared.Taken.{Taken}
 use Rattle.recognisers.specs.declared.Taken.the-variants.{Bytes, Fails}
-use Rattle.recognisers.specs.Taking.{Part, one, capital, contains}
-use Rattle.reserved.specs.declared.Found.{Found}
-use Rattle.reserved.specs.declared.Found.the-variants.{Entry, Nothing}
+use Rattle.recognisers.specs.Taking.{one, capital, contains}
+use Rattle.reserved.specs.declared.FoundPhrase.{FoundPhrase}
+use Rattle.reserved.specs.declared.FoundPhrase.the-variants.{Entry, Nothing}
 use Rattle.reserved.specs.Phrases.{walk, each}
 use Rattle.reserved.specs.TopLevel.{creatable, alterableOrDroppable, eachDropped, topLevelPhrases}
 use Rattle.reserved.specs.NewlineAfter.{newlineAfterPhrases}
@@ -23,7 +23,7 @@ use Rattle.reserved.specs.Newline.{newlinePhrases}
 use Rattle.reserved.specs.Join.{joinPhrases}
 use Rattle.reserved.specs.NoIndent.{noIndentPhrases}
 use Rattle.reserved.specs.Plain.{plainTwoPhrases, plainOnePhrases, plainA, plainB, plainC, plainD, plainE, plainF, plainG, plainH, plainI, plainK, plainL, plainM, plainN, plainO, plainP, plainQ, plainR, plainS, plainT, plainU, plainV, plainW, plainY}
-use Rattle.reserved.specs.Entries.{grouped, entries, ending, entryEnd, chosen, findEntry, encoded, entriesOf, tableFind}
+use Rattle.reserved.specs.Entries.{grouped, entries, entryEnd, chosen, findEntry, encoded, entriesOf, tableFind}
 
 -- ---- the loop of `find_in`
 
@@ -168,7 +168,7 @@ unfolding entries grouped topLevelPhrases creatable alterableOrDroppable each ea
 all-lettered = refl
 
 module _ (s : List ℕ) (x : ℕ) (c : x ≡ capital (getD s 0 0)) where
-  pub letter-is : (letter : ℕ) (r : Found) → x ≡ letter → r ≡ tableFind 0 (encoded (entriesOf letter entries)) s → r ≡ findEntry entries s
+  pub letter-is : (letter : ℕ) (r : FoundPhrase) → x ≡ letter → r ≡ tableFind 0 (encoded (entriesOf letter entries)) s → r ≡ findEntry entries s
   letter-is letter r e f = f ∙ encoded-find (entriesOf letter entries) s ∙ letter-find letter entries s all-lettered (sym c ∙ e)
 
   pub none-is : (letters : List ℕ) → allAmong letters entries ≡ true → NoneOf x letters → Nothing ≡ findEntry entries s

@@ -15,7 +15,7 @@ use Rattle.unicode.specs.Character.{characterLength, codePoint}
 use Rattle.unicode.specs.Classes.{isWhitespace, isWordCharacter, isPlaceholderNameCharacter}
 use Rattle.unicode.specs.Runs.{run}
 use Rattle.unicode.specs.Utf8.{wellFormed}
-use Rattle.unicode.proofs.Characters.{well-formed-step}
+use Rattle.unicode.proofs.WellFormedSteps.{well-formed-step}
 use Rattle.recognisers.specs.declared.Dialect.{Dialect}
 use Rattle.recognisers.specs.declared.Dialect.the-variants.{Generic, PostgreSql, SQLServer}
 use Rattle.recognisers.specs.declared.Key.{Key}
@@ -36,7 +36,7 @@ use Rattle.recognisers.specs.Parens.{inPostgreSql, getOpenParenToken, ge
 use Rattle.recognisers.specs.Number.{decimalNumber, signedDigits, exponent, scientificNotation, unsigned, getNumberToken}
 use Rattle.recognisers.specs.Placeholder.{keyed, indexedKey, indexedPart, getIndexedPlaceholderToken, placeholderName, identPart, getIdentNamedPlaceholderToken, throughBrace, bracedText, bracedPart, getBracedNamedPlaceholderToken, stringKey, stringNamedPart, getStringNamedPlaceholderToken, getPlaceholderToken}
 use Rattle.recognisers.specs.Words.{getWhitespaceToken, isOperator, getOperatorToken, getWordToken, getAnyOtherChar}
-use Rattle.unicode.proofs.Cuts.{Stop, at-end, before, behind, stop-cut, stop-later, ascii-next, run-cut}
+use Rattle.unicode.proofs.WellFormedCuts.{Stop, at-end, before, behind, stop-cut, stop-later, ascii-next, run-cut}
 
 -- ---- what a part leaves
 

@@ -1,7 +1,7 @@
 -- A phrase's words in the text, one byte of the phrase at a time.
 -- Assumes nothing.
-use Prim.Native.Nat.{ℕ, zero, suc, _+_, _-_, _^_, _≤_, _<_, zero-le, suc-le-suc}
-use native.Mathlib.Nat.{le-refl, le-trans, add-zero, not-suc-le-zero}
+use Prim.Native.Nat.{ℕ, suc, _+_, _-_, _^_, _≤_, _<_, zero-le}
+use native.Mathlib.Nat.{add-zero}
 use native.Mathlib.Numerals.{add-one}
 use native.Mathlib.Omega.{arith}
 use mathlib.Core.Path.{_≡_, refl, sym, ap, _∙_}
@@ -20,9 +20,10 @@ use Rattle.unicode.specs.declared.Class.the-variants.{Whitespace}
 use Rattle.recognisers.specs.declared.Taken.{Taken}
 use Rattle.recognisers.specs.declared.Taken.the-variants.{Bytes, Fails}
 use Rattle.recognisers.specs.Taking.{Part, taken, more, done, one, capital, blanks, endOfWord}
-use Rattle.recognisers.specs.Text.{byte, bytes}
-use Rattle.recognisers.proofs.Spelling.{part-end, more-zero, more-more}
-use Rattle.recognisers.proofs.Inside.{Inside, done-inside, one-inside, end-of-word-inside, fits-more}
+use Rattle.recognisers.specs.Text.{bytes}
+use Rattle.unicode.proofs.Rests.{part-end}
+use Rattle.recognisers.proofs.Spelling.{more-zero, more-more}
+use Rattle.recognisers.proofs.TakenInside.{Inside, done-inside, one-inside, end-of-word-inside, fits-more}
 use Rattle.recognisers.proofs.Blanks.{blanks-none, blanks-then, blanks-inside}
 use Rattle.reserved.specs.Phrases.{walk, after, optional}
 use Rattle.reserved.specs.Entries.{ifExists, ending, entryEnd}
