@@ -1,7 +1,7 @@
 # make          tries a program in seconds, proves the crates, builds the archive for C and the example, and runs that on a sample
 # make test     runs all tests; the last line counts them
 # make bench    prints speeds beside a plain scanner's and Rust's
-# make tables   prints the character tables anew (needs rustc and Debian's librust-unicode-categories-dev)
+# make tables   prints the tables of characters and of phrases anew (needs rustc, Debian's librust-unicode-categories-dev, python3)
 
 build := target/test
 archive := target/staticlib/libventpeeler.a
@@ -36,6 +36,8 @@ bench: $(build)/bench_unicode $(build)/bench_reading $(build)/bench_fill
 tables: $(build)/tables
 	$(build)/tables crates/unicode
 	$(build)/tables sweep > crates/sweep/stdout
+	python3 tools/phrases.py > $(build)/phrases.rt
+	cp $(build)/phrases.rt crates/reserved/src
 	rt fmt
 
 # an archive is written anew where any file of a crate is younger
