@@ -1,7 +1,8 @@
 # make          tries a program in seconds, proves the crates, builds the archive for C and the example, and runs that on a sample
 # make test     runs all tests; the last line counts them
 # make bench    prints speeds beside a plain scanner's and Rust's
-# make tables   prints the character tables anew (needs rustc and Debian's librust-unicode-categories-dev)
+# make tables   prints the tables of characters and of phrases anew (needs rustc, Debian's librust-unicode-categories-dev, python3)
+# make vectors  prints tests/vectors anew (needs python3)
 
 build := target/test
 archive := target/staticlib/libventpeeler.a
@@ -11,7 +12,7 @@ c := cc -std=c99 -O2 $(warnings) -Iinclude
 example := examples/search.c examples/filling.c
 categories := /usr/share/cargo/registry/unicode_categories-0.1.1/src/lib.rs
 
-.PHONY: all test bench tables
+.PHONY: all test bench tables vectors
 
 # what is tried first is not proved yet
 all:
@@ -36,7 +37,17 @@ bench: $(build)/bench_unicode $(build)/bench_reading $(build)/bench_fill
 tables: $(build)/tables
 	$(build)/tables crates/unicode
 	$(build)/tables sweep > crates/sweep/stdout
+	python3 tools/phrases.py > $(build)/phrases.rt
+	cp $(build)/phrases.rt crates/reserved/src
 	rt fmt
+
+vectors: $(patsubst tools/%_vectors.py,target/vectors/%,$(wildcard tools/*_vectors.py))
+	for file in $^; do cp $$file tests/vectors/$${file##*/}.txt; done
+
+target/vectors/%: tools/%_vectors.py $(wildcard tools/*.py) crates/sweep/stdout
+	@mkdir -p target/vectors
+	python3 $< > $@.part
+	mv $@.part $@
 
 # an archive is written anew where any file of a crate is younger
 target/staticlib/lib%.a: crates.txt $(shell find crates -type f)
@@ -59,7 +70,9 @@ $(build)/bench_%: bench/%.rs bench/timing.rs bench/searches.rs bench/scanner.c t
 	ar rc $(build)/libscanner.a $(build)/scanner.o
 	$(rust) -o $@ $< -L $(build) -l static=scanner -L target/staticlib -l static=ventpeeler
 
-$(build)/replay_%: tests/%/replay.rs tests/replaying.rs $(archive)
+replay_parts := tests/replaying.rs tests/vector_file.rs tests/calls.rs tests/random/lists.rs
+
+$(build)/replay_%: tests/%/replay.rs $(replay_parts) $(archive)
 	@mkdir -p $(build)
 	$(rust) -o $@ $< -L target/staticlib -l static=ventpeeler
 
@@ -93,7 +106,7 @@ $(build)/stack_%: tests/stack/%.rs $(wildcard tests/stack/*) tests/random/texts.
 	ar rc $(build)/libpainted.a $(build)/painted.o $(build)/painted_fill.o
 	$(rust) -o $@ $< -L $(build) -l static=painted -L target/staticlib -l static=ventpeeler
 
-$(build)/replay_lookup: tests/lookup/replay.rs tests/replaying.rs target/staticlib/libcalls_exports.a
+$(build)/replay_lookup: tests/lookup/replay.rs $(replay_parts) tests/rattle_calls.rs target/staticlib/libcalls_exports.a
 	@mkdir -p $(build)
 	$(rust) -o $@ $< -L target/staticlib -l static=calls_exports
 

@@ -1,85 +1,14 @@
-// What the replays of the files in tests/vectors share: the lines, and the count of checks. Each uses a part of it.
+// What the replays of the files in tests/vectors share: the count of checks, and the check of a written text.
 #![allow(dead_code)]
+
+use crate::calls::Answer;
+use crate::vector_file::Check;
 
 // The byte that stands where nothing may be written.
 pub const GUARD: u8 = 0xA5;
 
-pub fn unescape(text: &str) -> Vec<u8> {
-    let b = text.as_bytes();
-    let mut out = Vec::new();
-    let mut i = 0;
-    while i < b.len() {
-        if b[i] != b'\\' {
-            out.push(b[i]);
-            i += 1;
-            continue;
-        }
-        match b[i + 1] {
-            b'n' => out.push(b'\n'),
-            b'r' => out.push(b'\r'),
-            b't' => out.push(b'\t'),
-            b'\\' => out.push(b'\\'),
-            b'x' => {
-                out.push(u8::from_str_radix(&text[i + 2..i + 4], 16).unwrap());
-                i += 2;
-            }
-            other => panic!("no such escape: {}", other as char),
-        }
-        i += 2;
-    }
-    out
-}
-
-pub fn numbers(rest: &str) -> Vec<u64> {
-    rest.split(' ').map(|n| n.parse().unwrap()).collect()
-}
-
-// A line's `N B`: N times the byte B.
-pub fn repeated(rest: &str) -> Vec<u8> {
-    let n = numbers(rest);
-    vec![n[1] as u8; n[0] as usize]
-}
-
-// Bytes, two digits for each.
-pub fn hexadecimal(text: &str) -> Vec<u8> {
-    (0..text.len() / 2).map(|i| u8::from_str_radix(&text[2 * i..2 * i + 2], 16).unwrap()).collect()
-}
-
-// A line's `N B HEX`: bytes, and N times the byte B behind them.
-pub fn continued(rest: &str) -> Vec<u8> {
-    let words: Vec<&str> = rest.split(' ').collect();
-    let mut bytes = hexadecimal(words[2]);
-    bytes.extend(repeated(&words[..2].join(" ")));
-    bytes
-}
-
-// A line's mark, and what follows it.
-pub fn marked(line: &str) -> (&str, &str) {
-    let (mark, rest) = line.split_at(line.len().min(2));
-    (mark.trim(), rest)
-}
-
-// The file named on the command line, or the usual one.
-pub fn vectors(usual: &str) -> String {
-    let path = std::env::args().nth(1).unwrap_or(usual.to_string());
-    std::fs::read_to_string(&path).unwrap()
-}
-
-// Number and detail of an answer.
-pub fn unpacked(answer: u64) -> [u64; 2] {
-    [answer >> 56, answer & ((1 << 56) - 1)]
-}
-
 // The bytes past an output that are looked at.
 pub const PAST: usize = 64;
-
-// A call that writes a text, and what it must answer and write.
-pub struct TextCall {
-    pub line: usize,
-    pub settings: Vec<u64>,
-    pub answer: Vec<u64>,
-    pub text: Vec<u8>,
-}
 
 pub struct Count {
     passed: usize,
@@ -100,15 +29,29 @@ impl Count {
         }
     }
 
-    // What a call that writes a text answered and wrote: the output's first `lent` bytes were lent, and all held GUARD.
-    pub fn check_text(&mut self, call: &TextCall, [number, detail]: [u64; 2], output: &[u8], lent: usize) {
-        let answered = [number, detail] == call.answer[..];
-        self.check(call.line, answered, || format!("answered {} {}, not {:?}", number, detail, call.answer));
-        let end = call.text.len();
-        let written = end <= lent && output[..end] == call.text[..];
-        self.check(call.line, written, || format!("the text is not {:?}", String::from_utf8_lossy(&call.text)));
-        let kept = end <= lent && output[end..].iter().all(|b| *b == GUARD);
-        self.check(call.line, kept, || "a byte past the text was written".to_string());
+    // What a call answered, as numbers.
+    pub fn check_answer(&mut self, line: usize, got: &[u64], expected: &[u64]) {
+        self.check(line, got == expected, || format!("answered {:?}, not {:?}", got, expected));
+    }
+
+    // What a call wrote into an output with PAST bytes behind it, all of which held GUARD.
+    pub fn check_text(&mut self, line: usize, output: &[u8], text: &[u8]) {
+        let end = text.len();
+        let fits = end + PAST <= output.len();
+        let written = fits && output[..end] == *text;
+        self.check(line, written, || format!("the text is not {:?}", String::from_utf8_lossy(text)));
+        let kept = fits && output[end..].iter().all(|b| *b == GUARD);
+        self.check(line, kept, || "a byte past the text was written".to_string());
+    }
+
+    // A call that writes a text, made on an output with so many bytes lent.
+    pub fn check_call(&mut self, check: &Check, call: impl Fn(&mut [u8]) -> Answer) -> Answer {
+        let lent = check.inputs.lent;
+        let mut output = vec![GUARD; lent + PAST];
+        let answer = call(&mut output[..lent]);
+        self.check_answer(check.line, &[answer.0, answer.1], &check.numbers);
+        self.check_text(check.line, &output, &check.text);
+        answer
     }
 
     // All checks of a file are one test.

@@ -12,40 +12,23 @@ stops where it comes to another text (`WORKED`).
 """
 
 import sys
-from pathlib import Path
 
 sys.dont_write_bytecode = True
-sys.path.insert(0, str(Path(__file__).resolve().parent))
 import reading  # noqa: E402
-import vectors  # noqa: E402
+from vector_file import MANY, VectorFile, as_bytes  # noqa: E402
 
-MANY = 70000
 LARGEST = 2**64 - 1
-LONGEST = 200
 
-HEAD = """\
-# Value sheets, searches, settings, and the answers of fill and of the lookup.
-#
-# The expected answers are made from the tokens of a reading of src/tokenizer.rs in
-# Python (tools/reading.py), by a reading of src/params.rs and of document 01's
-# sentences on sheet, filled text and lookup (tools/fill_vectors.py), independently
-# of the port and never from its output. What document 01 says of a sheet and a
-# search by itself was laid beside it by hand. Printed by tools/fill_vectors.py.
-#
-# v HEX    the value sheet, two digits for each byte (none: the empty sheet)
-# w N B HEX  the same, with N times the byte B (decimal) behind it
-# s TEXT   the statement: the rest of the line after `s `, with \\n \\r \\t \\\\
-#          and \\xHH (one byte) as escapes; every other byte stands for itself
-# f N B    the statement: N times the byte B (decimal)
-# o D J N R  dialect, joins, named, and the number of bytes lent; they stay until
-#          the next `o`
-# = N D    a check: number and detail of fill on the present sheet and statement
-# t TEXT   a check: the text that this call has written
-# g N B    the same: N times the byte B
-# l P C N D A TEXT  a check: the lookup at place P with counter C gives number N,
-#          detail D, counter A afterwards, and the part TEXT
-# Where a call of fill has neither `t` nor `g`, it has written nothing.
+ABOUT = """\
+Value sheets, searches, settings, and the answers of fill and of the lookup. They are made from the tokens of a reading of
+src/tokenizer.rs in Python (tools/reading.py), by a reading of src/params.rs and of document 01's sentences on sheet, filled
+text and lookup (tools/fill_vectors.py), independently of the port and never from its output. What document 01 says of a sheet
+and a search by itself was laid beside it by hand. Printed by tools/fill_vectors.py.
 """
+
+# A part is where it lies, where it starts there, and its bytes.
+IN_STATEMENT, IN_SHEET = 0, 1
+EMPTY_START = (IN_STATEMENT, 0, b"")
 
 
 # --------------------------------------------------------------------------
@@ -72,7 +55,7 @@ NONE = b"\x00\x00\x00"
 
 
 def read_sheet(sheet):
-    """Kind and entries, (name, value) each, or None where the sheet is malformed."""
+    """Kind and entries, a name and the value's part each, or None where the sheet is malformed."""
     if len(sheet) < 3 or len(sheet) > 65536:
         return None
     kind = sheet[0]
@@ -88,12 +71,12 @@ def read_sheet(sheet):
         length = int.from_bytes(sheet[3 + 2 * n : 5 + 2 * n], "little")
         if at + length > len(sheet):
             return None
-        bodies.append(sheet[at : at + length])
+        bodies.append((IN_SHEET, at, sheet[at : at + length]))
         at += length
-    if at != len(sheet) or any(reading.first_ill_formed(body) is not None for body in bodies):
+    if at != len(sheet) or any(reading.first_ill_formed(body) is not None for *_, body in bodies):
         return None
     if kind == 1:
-        return kind, list(zip(bodies[0::2], bodies[1::2]))
+        return kind, [(name, value) for (*_, name), value in zip(bodies[0::2], bodies[1::2])]
     return kind, [(b"", body) for body in bodies]
 
 
@@ -115,54 +98,65 @@ def key_indexed(key):
     return None
 
 
-def get(kind, entries, index, token):
-    """Params::get: the value, and the counter afterwards"""
-    value = token.value.encode("utf-8")
+def get(kind, entries, index, token, own):
+    """Params::get: the value's part, or the token's own, and the counter afterwards"""
     named_placeholder_token = token.key is not None and key_named(token.key) != b""
     if kind == 1:
         if token.key is not None:
-            for name, body in entries:
+            for name, value in entries:
                 if name == key_named(token.key):
-                    return body, index
-        return value, index
+                    return value, index
+        return own, index
     if kind == 2 and not named_placeholder_token:
         key = key_indexed(token.key) if token.key is not None else None
         if key is not None:
-            return (entries[key][1] if key < len(entries) else value), index
-        taken = entries[index][1] if index < len(entries) else value
+            return (entries[key][1] if key < len(entries) else own), index
+        taken = entries[index][1] if index < len(entries) else own
         return taken, min(index + 1, LARGEST)
-    return value, index
+    return own, index
 
 
-def stands_for(kind, entries, index, token):
-    if token.kind != vectors.PLACEHOLDER:
-        return token.value.encode("utf-8"), index
-    return get(kind, entries, index, token)
+def stands_for(kind, entries, index, token, own):
+    if token.kind != reading.PLACEHOLDER:
+        return own, index
+    return get(kind, entries, index, token, own)
 
 
 # --------------------------------------------------------------------------
 # Document 01: the answers
 
 
+def own_parts(tokens):
+    """Each token with the part of the statement that it is"""
+    listed = []
+    start = 0
+    for token in tokens:
+        value = token.value.encode("utf-8")
+        listed.append((token, (IN_STATEMENT, start, value)))
+        start += len(value)
+    return listed
+
+
 def accepted(statement, dialect, joins, named_, sheet):
-    """Number and detail of a refusal, or the tokens and the sheet."""
+    """Number and detail of a refusal, or the tokens with their parts, and the sheet."""
     number, detail, _ = reading.answer(statement, dialect, joins, named_, len(statement))
     if number != 0:
         return (number, detail), None, None
     read = read_sheet(sheet)
     if read is None:
         return (5, 0), None, None
-    return None, reading.tokenize_text(statement.decode("utf-8"), named_ == 1, dialect, joins == 1), read
+    tokens = reading.tokenize_text(statement.decode("utf-8"), named_ == 1, dialect, joins == 1)
+    return None, own_parts(tokens), read
 
 
 def fill(statement, dialect, joins, named_, sheet, lent):
     refusal, tokens, read = accepted(statement, dialect, joins, named_, sheet)
     if refusal is not None:
-        return refusal[0], refusal[1], b""
+        return *refusal, b""
     text = b""
     index = 0
-    for token in tokens:
-        part, index = stands_for(*read, index, token)
+    for token, own in tokens:
+        (*_, part), index = stands_for(*read, index, token, own)
         text += part
     if lent < len(text):
         return 6, len(text), b""
@@ -173,67 +167,38 @@ def lookup(statement, dialect, joins, named_, sheet, place, counter):
     """Number, detail, counter afterwards, part"""
     refusal, tokens, read = accepted(statement, dialect, joins, named_, sheet)
     if refusal is not None:
-        return refusal[0], refusal[1], counter, b""
+        return *refusal, counter, EMPTY_START
     if place >= len(tokens):
-        return 0, 0, counter, b""
-    part, after = stands_for(*read, counter, tokens[place])
-    return 0, len(part), after, part
+        return 0, 0, counter, EMPTY_START
+    part, after = stands_for(*read, counter, *tokens[place])
+    return 0, len(part[2]), after, part
 
 
 # --------------------------------------------------------------------------
 # The file
 
 
-class Filled:
-    def __init__(self):
-        self.lines = [HEAD.rstrip("\n"), "", f"o 0 0 0 {MANY}"]
-        self.options = (0, 0, 0, MANY)
-        self.sheet = None
-        self.fills = self.lookups = 0
-
-    def group(self, title):
-        self.lines += ["", "# " + title]
-
-    def setting(self, sheet, statement, options):
-        if options != self.options:
-            self.lines.append("o %d %d %d %d" % options)
-            self.options = options
-        if sheet != self.sheet:
-            head = sheet.rstrip(sheet[-1:]) if len(sheet) >= 1000 else sheet
-            if head == sheet:
-                self.lines.append(("v " + sheet.hex()).rstrip())
-            else:
-                self.lines.append(f"w {len(sheet) - len(head)} {sheet[-1]} {head.hex()}")
-            self.sheet = sheet
-        self.lines.append(written("s", "f", statement))
+class Filled(VectorFile):
+    def inputs(self, sheet, text, *options):
+        statement = as_bytes(text)
+        self.options(*options)
+        self.sheet(sheet)
+        self.statement(statement)
+        return statement
 
     def fill(self, sheet, text, dialect=0, joins=0, named_=0, lent=MANY):
-        statement = text if isinstance(text, bytes) else text.encode("utf-8")
-        self.setting(sheet, statement, (dialect, joins, named_, lent))
-        number, detail, text = fill(statement, dialect, joins, named_, sheet, lent)
-        self.lines.append(f"= {number} {detail}")
-        if text:
-            self.lines.append(written("t", "g", text))
-        self.fills += 1
+        statement = self.inputs(sheet, text, dialect, joins, named_, lent)
+        number, detail, filled = fill(statement, dialect, joins, named_, sheet, lent)
+        self.check("=", number, detail)
+        self.text(filled)
 
     def lookup(self, sheet, text, places, counters, dialect=0, joins=0, named_=0):
-        statement = text if isinstance(text, bytes) else text.encode("utf-8")
-        self.setting(sheet, statement, (dialect, joins, named_, MANY))
+        statement = self.inputs(sheet, text, dialect, joins, named_, MANY)
         for place in places:
             for counter in counters:
-                number, detail, after, part = lookup(statement, dialect, joins, named_, sheet, place, counter)
-                line = f"l {place} {counter} {number} {detail} {after} {vectors.escaped(part)}"
-                self.lines.append(line.rstrip(" "))
-                self.lookups += 1
-
-
-def written(plain, repeated, text):
-    """The line for a text; no line ends in a blank, so the empty one is a repetition"""
-    if len(text) >= LONGEST or not text:
-        if text.strip(text[:1]):
-            sys.exit(f"a long text that is not one byte, repeated: {text[:40]!r}")
-        return f"{repeated} {len(text)} {text[0] if text else 32}"
-    return plain + " " + vectors.escaped(text)
+                *answer, (source, start, part) = lookup(statement, dialect, joins, named_, sheet, place, counter)
+                self.check("l", place, counter, *answer, source, start)
+                self.text(part)
 
 
 # --------------------------------------------------------------------------
@@ -375,11 +340,10 @@ def refusals(lines):
 
 
 def main():
-    lines = Filled()
+    lines = Filled(ABOUT, "vwsfo=ltg")
     for group in (worked, faults, keys, places, refusals):
         group(lines)
-    sys.stdout.buffer.write(("\n".join(lines.lines) + "\n").encode("utf-8"))
-    print(f"{lines.fills} fills, {lines.lookups} lookups", file=sys.stderr)
+    lines.print()
 
 
 if __name__ == "__main__":

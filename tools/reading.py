@@ -2,7 +2,7 @@
 """A reading of src/tokenizer.rs (document 000) in Python, function by function.
 
 It stands beside the port as a second reading: it was written from the Rust and
-from document 01 alone, without sight of the port, and tools/vectors.py makes
+from document 01 alone, without sight of the port, and tools/*_vectors.py make
 the expected answers in tests/vectors/ with it. It is meant to be laid beside
 000 line by line, so it has the Rust's names and order and takes no short cuts;
 it is slow on purpose where the Rust is (get_uc_words, finalize).
@@ -13,7 +13,8 @@ prints what document 01's program `listing` prints, under these settings.
 """
 
 import sys
-from itertools import islice
+from functools import lru_cache
+from itertools import islice, product
 from pathlib import Path
 
 # --------------------------------------------------------------------------
@@ -92,7 +93,8 @@ def split_whitespace(text):
 
 # --------------------------------------------------------------------------
 # What 000 uses of winnow. A parser is given an Input and hands back the text it
-# consumed (so `.take()` is everywhere); it hands back None where it fails.
+# consumed (so `.take()` is everywhere); it hands back None where it fails. One
+# that is made of literals also knows the texts that it may take (`spelled`).
 
 
 class Input:
@@ -109,6 +111,14 @@ class Input:
         taken = self.text[self.at : self.at + length]
         self.at += length
         return taken
+
+
+def spelled(parser):
+    """Every text that a parser made of literals takes, or the arms of a match;
+    what is optional is left out first"""
+    if isinstance(parser, dict):
+        return [text for arm in parser.values() for text in spelled(arm)]
+    return parser.texts() if hasattr(parser, "texts") else []
 
 
 def any_(input):
@@ -134,6 +144,7 @@ def literal(text):
             return input.next_slice(len(text))
         return None
 
+    parse.texts = lambda: [text]
     return parse
 
 
@@ -233,6 +244,7 @@ def alt(*parsers):
             input.at = start
         return None
 
+    parse.texts = lambda: [text for parser in parsers for text in spelled(parser)]
     return parse
 
 
@@ -247,6 +259,7 @@ def opt(parser):
             return ""
         return result
 
+    parse.texts = lambda: ["", *spelled(parser)]
     return parse
 
 
@@ -272,6 +285,7 @@ def seq(*parsers):
                 return None
         return input.text[start : input.at]
 
+    parse.texts = lambda: ["".join(texts) for texts in product(*map(spelled, parsers))]
     return parse
 
 
@@ -284,6 +298,7 @@ def terminated(parser, after):
             return None
         return result
 
+    parse.texts = lambda: spelled(parser)
     return parse
 
 
@@ -357,6 +372,7 @@ def is_word_character(item):
 end_of_word = peek(alt(eof, one_of(lambda val: not is_word_character(val))))
 
 
+@lru_cache(maxsize=16)  # a text is often asked for again at once, with other room lent
 def tokenize_text(text, named_placeholders, dialect, joins_as_top_level):
     """000's tokenize: the tokens of a text"""
     input = Input(text)
@@ -736,6 +752,95 @@ def words_end(phrase):
     return terminated(literal(phrase), end_of_word)
 
 
+creatable = alt(
+    literal("AGGREGATE"),
+    literal("FUNCTION"),
+    literal("LANGUAGE"),
+    literal("PROCEDURE"),
+    literal("RULE"),
+    literal("TRIGGER"),
+    literal("VIEW"),
+)
+alterable_or_droppable = alt(creatable, literal("TABLE"), literal("INDEX"))
+
+# The arms of get_top_level_reserved_token, by the first letter
+TOP_LEVEL = {
+    "A": alt(
+        words_end("AFTER"),
+        terminated(seq(literal("ALTER "), alterable_or_droppable), end_of_word),
+    ),
+    "C": terminated(
+        seq(
+            literal("CREATE "),
+            alt(
+                seq(opt(literal("OR REPLACE ")), creatable),
+                seq(opt(literal("UNIQUE ")), literal("INDEX")),
+                seq(
+                    opt(
+                        alt(
+                            literal("UNLOGGED "),
+                            seq(
+                                alt(literal("GLOBAL "), literal("LOCAL ")),
+                                opt(alt(literal("TEMPORARY "), literal("TEMP "))),
+                            ),
+                        )
+                    ),
+                    literal("TABLE"),
+                ),
+            ),
+        ),
+        end_of_word,
+    ),
+    "D": alt(
+        words_end("DELETE FROM"),
+        terminated(
+            seq(
+                literal("DROP "),
+                alterable_or_droppable,
+                opt(literal(" IF EXISTS")),
+            ),
+            end_of_word,
+        ),
+    ),
+    "E": words_end("EXCEPT"),
+    "F": alt(
+        words_end("FETCH FIRST"),
+        words_end("FROM"),
+        terminated(
+            seq(
+                literal("FOR "),
+                alt(
+                    literal("UPDATE"),
+                    literal("NO KEY UPDATE"),
+                    literal("SHARE"),
+                    literal("KEY SHARE"),
+                ),
+            ),
+            end_of_word,
+        ),
+    ),
+    "G": alt(words_end("GROUP BY"), words_end("GO")),
+    "H": words_end("HAVING"),
+    "I": alt(words_end("INSERT INTO"), words_end("INSERT")),
+    "L": words_end("LIMIT"),
+    "M": alt(words_end("MODIFY"), words_end("MERGE INTO")),
+    "O": alt(words_end("ORDER BY"), words_end("ON CONFLICT")),
+    "P": words_end("PARTITION BY"),
+    "R": words_end("RETURNING"),
+    "S": alt(
+        words_end("SELECT DISTINCT"),
+        words_end("SELECT ALL"),
+        words_end("SELECT"),
+        words_end("SET CURRENT SCHEMA"),
+        words_end("SET SCHEMA"),
+        words_end("SET"),
+    ),
+    "U": alt(words_end("UPDATE"), words_end("USING")),
+    "V": words_end("VALUES"),
+    "W": alt(words_end("WHERE"), words_end("WINDOW")),
+}
+
+
 def get_top_level_reserved_token(last_reserved_top_level_token):
     def parse(input):
         uc_input = Input(get_uc_words(input.rest(), 4))
@@ -746,114 +851,8 @@ def get_top_level_reserved_token(last_reserved_top_level_token):
             return None
         first_char = to_ascii_uppercase(first_char)
 
-        creatable = tuple(
-            literal(word)
-            for word in (
-                "AGGREGATE",
-                "FUNCTION",
-                "LANGUAGE",
-                "PROCEDURE",
-                "RULE",
-                "TRIGGER",
-                "VIEW",
-            )
-        )
-        alterable_or_droppable = alt(alt(*creatable), literal("TABLE"), literal("INDEX"))
-
-        # Match keywords based on their first letter
-        if first_char == "A":
-            group = alt(
-                words_end("AFTER"),
-                terminated(seq(literal("ALTER "), alterable_or_droppable), end_of_word),
-            )
-        elif first_char == "C":
-            group = terminated(
-                seq(
-                    literal("CREATE "),
-                    alt(
-                        seq(opt(literal("OR REPLACE ")), alt(*creatable)),
-                        seq(opt(literal("UNIQUE ")), literal("INDEX")),
-                        seq(
-                            opt(
-                                alt(
-                                    literal("UNLOGGED "),
-                                    seq(
-                                        alt(literal("GLOBAL "), literal("LOCAL ")),
-                                        opt(alt(literal("TEMPORARY "), literal("TEMP "))),
-                                    ),
-                                )
-                            ),
-                            literal("TABLE"),
-                        ),
-                    ),
-                ),
-                end_of_word,
-            )
-        elif first_char == "D":
-            group = alt(
-                words_end("DELETE FROM"),
-                terminated(
-                    seq(
-                        literal("DROP "),
-                        alterable_or_droppable,
-                        opt(literal(" IF EXISTS")),
-                    ),
-                    end_of_word,
-                ),
-            )
-        elif first_char == "E":
-            group = words_end("EXCEPT")
-        elif first_char == "F":
-            group = alt(
-                words_end("FETCH FIRST"),
-                words_end("FROM"),
-                terminated(
-                    seq(
-                        literal("FOR "),
-                        alt(
-                            literal("UPDATE"),
-                            literal("NO KEY UPDATE"),
-                            literal("SHARE"),
-                            literal("KEY SHARE"),
-                        ),
-                    ),
-                    end_of_word,
-                ),
-            )
-        elif first_char == "G":
-            group = alt(words_end("GROUP BY"), words_end("GO"))
-        elif first_char == "H":
-            group = words_end("HAVING")
-        elif first_char == "I":
-            group = alt(words_end("INSERT INTO"), words_end("INSERT"))
-        elif first_char == "L":
-            group = words_end("LIMIT")
-        elif first_char == "M":
-            group = alt(words_end("MODIFY"), words_end("MERGE INTO"))
-        elif first_char == "O":
-            group = alt(words_end("ORDER BY"), words_end("ON CONFLICT"))
-        elif first_char == "P":
-            group = words_end("PARTITION BY")
-        elif first_char == "R":
-            group = words_end("RETURNING")
-        elif first_char == "S":
-            group = alt(
-                words_end("SELECT DISTINCT"),
-                words_end("SELECT ALL"),
-                words_end("SELECT"),
-                words_end("SET CURRENT SCHEMA"),
-                words_end("SET SCHEMA"),
-                words_end("SET"),
-            )
-        elif first_char == "U":
-            group = alt(words_end("UPDATE"), words_end("USING"))
-        elif first_char == "V":
-            group = words_end("VALUES")
-        elif first_char == "W":
-            group = alt(words_end("WHERE"), words_end("WINDOW"))
-        else:
-            # If the first character doesn't match any of our keywords, fail early
-            group = fail
+        # If the first character doesn't match any of our keywords, fail early
+        group = TOP_LEVEL.get(first_char, fail)
 
         token = group(uc_input)
         if token is None:
@@ -886,49 +885,47 @@ def get_top_level_reserved_token(last_reserved_top_level_token):
     return parse
 
 
+# Standard SQL joins
+standard_joins = alt(
+    words_end("JOIN"),
+    words_end("INNER JOIN"),
+    words_end("LEFT JOIN"),
+    words_end("RIGHT JOIN"),
+    words_end("FULL JOIN"),
+    words_end("CROSS JOIN"),
+    words_end("LEFT OUTER JOIN"),
+    words_end("RIGHT OUTER JOIN"),
+    words_end("FULL OUTER JOIN"),
+)
+# Warehouse-specific ANY/SEMI/ANTI joins
+specific_joins = alt(
+    words_end("INNER ANY JOIN"),
+    words_end("LEFT ANY JOIN"),
+    words_end("RIGHT ANY JOIN"),
+    words_end("ANY JOIN"),
+    words_end("SEMI JOIN"),
+    words_end("LEFT SEMI JOIN"),
+    words_end("RIGHT SEMI JOIN"),
+    words_end("LEFT ANTI JOIN"),
+    words_end("RIGHT ANTI JOIN"),
+)
+# Special joins and GLOBAL variants
+special_joins = alt(
+    words_end("ASOF JOIN"),
+    words_end("LEFT ASOF JOIN"),
+    words_end("PASTE JOIN"),
+    words_end("GLOBAL INNER JOIN"),
+    words_end("GLOBAL LEFT JOIN"),
+    words_end("GLOBAL RIGHT JOIN"),
+    words_end("GLOBAL FULL JOIN"),
+)
+JOINS = alt(standard_joins, specific_joins, special_joins)
+
+
 def get_join_token():
     def parse(input):
         uc_input = Input(get_uc_words(input.rest(), 3))
-
-        # Standard SQL joins
-        standard_joins = alt(
-            words_end("JOIN"),
-            words_end("INNER JOIN"),
-            words_end("LEFT JOIN"),
-            words_end("RIGHT JOIN"),
-            words_end("FULL JOIN"),
-            words_end("CROSS JOIN"),
-            words_end("LEFT OUTER JOIN"),
-            words_end("RIGHT OUTER JOIN"),
-            words_end("FULL OUTER JOIN"),
-        )
-
-        # Warehouse-specific ANY/SEMI/ANTI joins
-        specific_joins = alt(
-            words_end("INNER ANY JOIN"),
-            words_end("LEFT ANY JOIN"),
-            words_end("RIGHT ANY JOIN"),
-            words_end("ANY JOIN"),
-            words_end("SEMI JOIN"),
-            words_end("LEFT SEMI JOIN"),
-            words_end("RIGHT SEMI JOIN"),
-            words_end("LEFT ANTI JOIN"),
-            words_end("RIGHT ANTI JOIN"),
-        )
-
-        # Special joins and GLOBAL variants
-        special_joins = alt(
-            words_end("ASOF JOIN"),
-            words_end("LEFT ASOF JOIN"),
-            words_end("PASTE JOIN"),
-            words_end("GLOBAL INNER JOIN"),
-            words_end("GLOBAL LEFT JOIN"),
-            words_end("GLOBAL RIGHT JOIN"),
-            words_end("GLOBAL FULL JOIN"),
-        )
-
-        # Combine all parsers
-        token = alt(standard_joins, specific_joins, special_joins)(uc_input)
+        token = JOINS(uc_input)
         if token is None:
             return None
         final_word = token.split(" ")[-1]
@@ -938,11 +935,13 @@ def get_join_token():
     return parse
 
 
+ON_CONFLICT = words_end("DO UPDATE SET")
+
+
 def get_newline_after_reserved_token():
     def parse(input):
         uc_input = Input(get_uc_words(input.rest(), 3))
-        on_conflict = words_end("DO UPDATE SET")
-        token = on_conflict(uc_input)
+        token = ON_CONFLICT(uc_input)
         if token is None:
             return None
         return Token(RESERVED_NEWLINE_AFTER, finalize(input, token))
@@ -950,32 +949,31 @@ def get_newline_after_reserved_token():
     return parse
 
 
+# Legacy and logical operators
+operators = alt(
+    words_end("CROSS APPLY"),
+    words_end("OUTER APPLY"),
+    words_end("AND"),
+    words_end("OR"),
+    words_end("XOR"),
+    words_end("WHEN"),
+    words_end("ELSE"),
+)
+alter_table_actions = alt(
+    words_end("ADD"),
+    words_end("DROP"),
+    words_end("ALTER"),
+    words_end("VALIDATE"),
+    words_end("ENABLE"),
+    words_end("DISABLE"),
+)
+NEWLINE = alt(operators, alter_table_actions)
+
+
 def get_newline_reserved_token(last_reserved_token):
     def parse(input):
         uc_input = Input(get_uc_words(input.rest(), 3))
-
-        # Legacy and logical operators
-        operators = alt(
-            words_end("CROSS APPLY"),
-            words_end("OUTER APPLY"),
-            words_end("AND"),
-            words_end("OR"),
-            words_end("XOR"),
-            words_end("WHEN"),
-            words_end("ELSE"),
-        )
-
-        alter_table_actions = alt(
-            words_end("ADD"),
-            words_end("DROP"),
-            words_end("ALTER"),
-            words_end("VALIDATE"),
-            words_end("ENABLE"),
-            words_end("DISABLE"),
-        )
-
-        # Combine all parsers
-        token = alt(operators, alter_table_actions)(uc_input)
+        token = NEWLINE(uc_input)
         if token is None:
             return None
         token = finalize(input, token)
@@ -994,19 +992,22 @@ def get_newline_reserved_token(last_reserved_token):
     return parse
 
 
+NO_INDENT = alt(
+    words_end("BEGIN"),
+    words_end("DECLARE"),
+    words_end("INTERSECT ALL"),
+    words_end("INTERSECT"),
+    words_end("MINUS"),
+    words_end("UNION ALL"),
+    words_end("UNION"),
+    words_end("WITH"),
+    words_end("$$"),
+)
+
+
 def get_top_level_reserved_token_no_indent(input):
     uc_input = Input(get_uc_words(input.rest(), 2))
-    token = alt(
-        words_end("BEGIN"),
-        words_end("DECLARE"),
-        words_end("INTERSECT ALL"),
-        words_end("INTERSECT"),
-        words_end("MINUS"),
-        words_end("UNION ALL"),
-        words_end("UNION"),
-        words_end("WITH"),
-        words_end("$$"),
-    )(uc_input)
+    token = NO_INDENT(uc_input)
     if token is None:
         return None
     return Token(RESERVED_TOP_LEVEL_NO_INDENT, finalize(input, token))
@@ -1017,7 +1018,7 @@ def get_plain_reserved_token(input):
 
 
 # 000's lists of get_plain_reserved_one_token, in its order, duplicates and all.
-PLAIN_RESERVED_ONE = {
+PLAIN_WORDS = {
     "A": """
         ACCESSIBLE ACTION AGAINST AGGREGATE ALGORITHM ALL ALTER ANALYSE ANALYZE
         AS ASC AUTOCOMMIT AUTO_INCREMENT
@@ -1093,6 +1094,7 @@ PLAIN_RESERVED_ONE = {
     "W": "WHEN WORK WRITE",
     "Y": "YEAR_MONTH",
 }
+PLAIN_ONE = {letter: alt(*map(words_end, words.split())) for letter, words in PLAIN_WORDS.items()}
 
 
 def get_plain_reserved_one_token(input):
@@ -1104,26 +1106,28 @@ def get_plain_reserved_one_token(input):
     first_char = to_ascii_uppercase(first_char)
 
     # If the first character doesn't match any of our keywords, fail early
-    words = PLAIN_RESERVED_ONE.get(first_char, "").split()
-    token = alt(*(words_end(word) for word in words))(uc_input)
+    token = PLAIN_ONE.get(first_char, fail)(uc_input)
     if token is None:
         return None
     # No finalize here: the phrase is one word, at the front of the rest.
     return Token(RESERVED, input.next_slice(len(token)))
 
 
+PLAIN_TWO = alt(
+    words_end("CHARACTER SET"),
+    words_end("DO NOTHING"),
+    words_end("ON CONFLICT"),
+    words_end("ON CONSTRAINT"),
+    words_end("ON DELETE"),
+    words_end("ON UPDATE"),
+    words_end("DISTINCT FROM"),
+    words_end("PARTITIONED BY"),
+)
+
+
 def get_plain_reserved_two_token(input):
     uc_input = Input(get_uc_words(input.rest(), 2))
-    token = alt(
-        words_end("CHARACTER SET"),
-        words_end("DO NOTHING"),
-        words_end("ON CONFLICT"),
-        words_end("ON CONSTRAINT"),
-        words_end("ON DELETE"),
-        words_end("ON UPDATE"),
-        words_end("DISTINCT FROM"),
-        words_end("PARTITIONED BY"),
-    )(uc_input)
+    token = PLAIN_TWO(uc_input)
     if token is None:
         return None
     return Token(RESERVED, finalize(input, token))

@@ -1,55 +1,50 @@
 // Replays the lookups of tests/vectors/fill.txt through libcalls_exports.a, prints each failure and a count. The file says
 // how its answers were made and what its lines mean.
+#[path = "../calls.rs"]
+mod calls;
+#[path = "../rattle_calls.rs"]
+mod rattle_calls;
 #[path = "../replaying.rs"]
 mod replaying;
+#[path = "../vector_file.rs"]
+mod vector_file;
 
-use replaying::{continued, hexadecimal, marked, numbers, repeated, unescape, Count, GUARD};
+use replaying::{Count, GUARD, PAST};
+use vector_file::Check;
 
-extern "C" {
-    fn calls_lookup(
-        statement: *const u8, statement_len: usize, dialect: u64, joins: u64, named: u64,
-        sheet: *const u8, sheet_len: usize, place: usize, counter: *mut u64, number: *mut u64, detail: *mut u64,
-        bytes: *mut u8, bytes_len: usize,
+// The part, copied where there is room.
+fn run(check: &Check, lent: usize, count: &mut Count) {
+    let inputs = &check.inputs;
+    let &[place, mut counter, number, detail, after, _, _] = &check.numbers[..] else { panic!("line {}", check.line) };
+    let mut bytes = vec![GUARD; lent + PAST];
+    let answer = rattle_calls::lookup(
+        &inputs.statement,
+        inputs.settings,
+        &inputs.sheet,
+        place as usize,
+        &mut counter,
+        &mut bytes[..lent],
     );
+    count.check_answer(check.line, &[answer.0, answer.1, counter], &[number, detail, after]);
+    count.check_text(check.line, &bytes, if lent < check.text.len() { b"" } else { &check.text });
 }
 
-// More than any part has.
-const ROOM: usize = 70000;
+// The part by its place.
+fn run_place(check: &Check, count: &mut Count) {
+    let inputs = &check.inputs;
+    let (place, mut counter) = (check.numbers[0] as usize, check.numbers[1]);
+    let (answer, [source, start]) =
+        rattle_calls::lookup_place(&inputs.statement, inputs.settings, &inputs.sheet, place, &mut counter);
+    count.check_answer(check.line, &[answer.0, answer.1, counter, source, start], &check.numbers[2..]);
+}
 
 fn main() {
-    let file = replaying::vectors("tests/vectors/fill.txt");
-    let (mut sheet, mut statement, mut settings) = (Vec::new(), Vec::new(), vec![0; 4]);
-    let mut bytes = vec![GUARD; ROOM];
     let mut count = Count::new();
-    for (i, line) in file.lines().enumerate() {
-        let (mark, rest) = marked(line);
-        match mark {
-            "v" => sheet = hexadecimal(rest),
-            "w" => sheet = continued(rest),
-            "s" => statement = unescape(rest),
-            "f" => statement = repeated(rest),
-            "o" => settings = numbers(rest),
-            "l" => {
-                let mut words = rest.splitn(6, ' ');
-                let told: Vec<u64> = words.by_ref().take(5).map(|n| n.parse().unwrap()).collect();
-                let part = unescape(words.next().unwrap_or(""));
-                let (mut counter, mut number, mut detail) = (told[1], 99, 99);
-                unsafe {
-                    calls_lookup(
-                        statement.as_ptr(), statement.len(), settings[0], settings[1], settings[2],
-                        sheet.as_ptr(), sheet.len(), told[0] as usize, &mut counter, &mut number, &mut detail,
-                        bytes.as_mut_ptr(), bytes.len(),
-                    )
-                }
-                let got = [number, detail, counter];
-                count.check(i + 1, got == told[2..], || format!("number, detail, counter are {:?}, not {:?}", got, &told[2..]));
-                let same = bytes[..part.len()] == part[..] && bytes[part.len()..].iter().take(64).all(|b| *b == GUARD);
-                count.check(i + 1, same, || format!("the part is not {:?}", String::from_utf8_lossy(&part)));
-                bytes[..part.len()].fill(GUARD);
-            }
-            "=" | "t" | "g" | "" | "#" => {}
-            other => panic!("line {}: {}", i + 1, other),
+    for check in vector_file::checks("tests/vectors/fill.txt", 'l') {
+        for lent in [check.inputs.lent, check.text.len(), check.text.len().saturating_sub(1)] {
+            run(&check, lent, &mut count);
         }
+        run_place(&check, &mut count);
     }
     count.tell();
 }

@@ -1,79 +1,10 @@
-// The reserved phrases by their first letter, in the order in which they are tried: for each its group, the length of its
-// words, and the words. Groups: T top level, D top level with IF EXISTS behind it or not, A newline after, N newline, J join,
-// I top level without indent, R reserved.
+// One decision on the first letter picks the table in which a phrase is looked for.
 use crate::FoundPhrase;
 use crate::find::find_in;
+use crate::phrases;
 use recognisers::capital_of;
 ghost use mathlib.Core.Path.{_≡_};
 ghost use Rattle.reserved.specs.Entries.{entries, findEntry};
-
-const DOLLAR_PHRASES: [u8; 4] = *b"I\x02$$";
-
-const A_PHRASES: [u8; 294] =
-    *b"T\x05AFTERT\x0FALTER AGGREGATET\x0EALTER FUNCTIONT\x0EALTER LANGUAGET\x0FALTER PROCEDURET\x0AALTER RULET\x0DALTER TRIGGERT\x0AALTER VIEWT\x0BALTER TABLET\x0BALTER INDEXN\x03ANDN\x03ADDN\x05ALTERJ\x08ANY JOINJ\x09ASOF JOINR\x0AACCESSIBLER\x06ACTIONR\x07AGAINSTR\x09AGGREGATER\x09ALGORITHMR\x03ALLR\x05ALTERR\x07ANALYSER\x07ANALYZER\x02ASR\x03ASCR\x0AAUTOCOMMITR\x0EAUTO_INCREMENT";
-
-const B_PHRASES: [u8; 38] = *b"I\x05BEGINR\x06BACKUPR\x07BETWEENR\x06BINLOGR\x04BOTH";
-
-const C_PHRASES: [u8; 778] =
-    *b"T\x1BCREATE OR REPLACE AGGREGATET\x1ACREATE OR REPLACE FUNCTIONT\x1ACREATE OR REPLACE LANGUAGET\x1BCREATE OR REPLACE PROCEDURET\x16CREATE OR REPLACE RULET\x19CREATE OR REPLACE TRIGGERT\x16CREATE OR REPLACE VIEWT\x10CREATE AGGREGATET\x0FCREATE FUNCTIONT\x0FCREATE LANGUAGET\x10CREATE PROCEDURET\x0BCREATE RULET\x0ECREATE TRIGGERT\x0BCREATE VIEWT\x13CREATE UNIQUE INDEXT\x0CCREATE INDEXT\x15CREATE UNLOGGED TABLET\x1DCREATE GLOBAL TEMPORARY TABLET\x18CREATE GLOBAL TEMP TABLET\x13CREATE GLOBAL TABLET\x1CCREATE LOCAL TEMPORARY TABLET\x17CREATE LOCAL TEMP TABLET\x12CREATE LOCAL TABLET\x0CCREATE TABLEN\x0BCROSS APPLYJ\x0ACROSS JOINR\x0DCHARACTER SETR\x07CASCADER\x04CASER\x06CHANGER\x07CHANGEDR\x07CHARSETR\x05CHECKR\x08CHECKSUMR\x07COLLATER\x09COLLATIONR\x06COLUMNR\x07COLUMNSR\x07COMMENTR\x06COMMITR\x09COMMITTEDR\x0ACOMPRESSEDR\x0ACONCURRENTR\x0ACONSTRAINTR\x08CONTAINSR\x07CONVERTR\x06CREATER\x05CROSSR\x11CURRENT_TIMESTAMP";
-
-const D_PHRASES: [u8; 395] =
-    *b"T\x0BDELETE FROMD\x0EDROP AGGREGATED\x0DDROP FUNCTIOND\x0DDROP LANGUAGED\x0EDROP PROCEDURED\x09DROP RULED\x0CDROP TRIGGERD\x09DROP VIEWD\x0ADROP TABLED\x0ADROP INDEXA\x0DDO UPDATE SETN\x04DROPN\x07DISABLEI\x07DECLARER\x0ADO NOTHINGR\x0DDISTINCT FROMR\x08DATABASER\x09DATABASESR\x03DAYR\x08DAY_HOURR\x0ADAY_MINUTER\x0ADAY_SECONDR\x07DEFAULTR\x07DEFINERR\x07DELAYEDR\x06DELETER\x04DESCR\x08DESCRIBER\x0DDETERMINISTICR\x08DISTINCTR\x0BDISTINCTROWR\x03DIVR\x02DOR\x04DROPR\x08DUMPFILER\x09DUPLICATER\x07DYNAMIC";
-
-const E_PHRASES: [u8; 140] =
-    *b"T\x06EXCEPTN\x04ELSEN\x06ENABLER\x04ELSER\x08ENCLOSEDR\x03ENDR\x06ENGINER\x07ENGINESR\x0BENGINE_TYPER\x06ESCAPER\x07ESCAPEDR\x06EVENTSR\x04EXECR\x07EXECUTER\x06EXISTSR\x07EXPLAINR\x08EXTENDED";
-
-const F_PHRASES: [u8; 199] =
-    *b"T\x0BFETCH FIRSTT\x04FROMT\x0AFOR UPDATET\x11FOR NO KEY UPDATET\x09FOR SHARET\x0DFOR KEY SHAREJ\x09FULL JOINJ\x0FFULL OUTER JOINR\x04FASTR\x05FETCHR\x06FIELDSR\x04FILER\x05FIRSTR\x05FIXEDR\x05FLUSHR\x03FORR\x05FORCER\x07FOREIGNR\x04FULLR\x08FULLTEXTR\x08FUNCTION";
-
-const G_PHRASES: [u8; 125] =
-    *b"T\x08GROUP BYT\x02GOJ\x11GLOBAL INNER JOINJ\x10GLOBAL LEFT JOINJ\x11GLOBAL RIGHT JOINJ\x10GLOBAL FULL JOINR\x06GLOBALR\x05GRANTR\x06GRANTSR\x0CGROUP_CONCAT";
-
-const H_PHRASES: [u8; 68] =
-    *b"T\x06HAVINGR\x04HEAPR\x0DHIGH_PRIORITYR\x05HOSTSR\x04HOURR\x0BHOUR_MINUTER\x0BHOUR_SECOND";
-
-const I_PHRASES: [u8; 209] =
-    *b"T\x0BINSERT INTOT\x06INSERTJ\x0AINNER JOINJ\x0EINNER ANY JOINI\x0DINTERSECT ALLI\x09INTERSECTR\x0AIDENTIFIEDR\x02IFR\x06IFNULLR\x06IGNORER\x02INR\x05INDEXR\x07INDEXESR\x06INFILER\x06INSERTR\x09INSERT_IDR\x0DINSERT_METHODR\x08INTERVALR\x04INTOR\x07INVOKERR\x02ISR\x09ISOLATION";
-
-const J_PHRASES: [u8; 6] = *b"J\x04JOIN";
-
-const K_PHRASES: [u8; 17] = *b"R\x03KEYR\x04KEYSR\x04KILL";
-
-const L_PHRASES: [u8; 197] =
-    *b"T\x05LIMITJ\x09LEFT JOINJ\x0FLEFT OUTER JOINJ\x0DLEFT ANY JOINJ\x0ELEFT SEMI JOINJ\x0ELEFT ANTI JOINJ\x0ELEFT ASOF JOINR\x0ELAST_INSERT_IDR\x07LEADINGR\x05LEVELR\x04LIKER\x06LINEARR\x05LINESR\x04LOADR\x05LOCALR\x04LOCKR\x05LOCKSR\x04LOGSR\x0CLOW_PRIORITY";
-
-const M_PHRASES: [u8; 292] =
-    *b"T\x06MODIFYT\x0AMERGE INTOI\x05MINUSR\x05MARIAR\x06MASTERR\x14MASTER_CONNECT_RETRYR\x0BMASTER_HOSTR\x0FMASTER_LOG_FILER\x05MATCHR\x18MAX_CONNECTIONS_PER_HOURR\x14MAX_QUERIES_PER_HOURR\x08MAX_ROWSR\x14MAX_UPDATES_PER_HOURR\x14MAX_USER_CONNECTIONSR\x06MEDIUMR\x05MERGER\x06MINUTER\x0DMINUTE_SECONDR\x08MIN_ROWSR\x04MODER\x06MODIFYR\x05MONTHR\x0AMRG_MYISAMR\x06MYISAM";
-
-const N_PHRASES: [u8; 34] = *b"R\x05NAMESR\x07NATURALR\x03NOTR\x05NOW()R\x04NULL";
-
-const O_PHRASES: [u8; 153] =
-    *b"T\x08ORDER BYT\x0BON CONFLICTN\x0BOUTER APPLYN\x02ORR\x0BON CONFLICTR\x0DON CONSTRAINTR\x09ON DELETER\x09ON UPDATER\x06OFFSETR\x02ONR\x04ONLYR\x04OPENR\x08OPTIMIZER\x06OPTIONR\x0AOPTIONALLYR\x07OUTFILE";
-
-const P_PHRASES: [u8; 162] =
-    *b"T\x0CPARTITION BYJ\x0APASTE JOINR\x0EPARTITIONED BYR\x09PACK_KEYSR\x04PAGER\x07PARTIALR\x09PARTITIONR\x0APARTITIONSR\x08PASSWORDR\x07PRIMARYR\x0APRIVILEGESR\x09PROCEDURER\x07PROCESSR\x0BPROCESSLISTR\x05PURGE";
-
-const Q_PHRASES: [u8; 7] = *b"R\x05QUICK";
-
-const R_PHRASES: [u8; 343] =
-    *b"T\x09RETURNINGJ\x0ARIGHT JOINJ\x10RIGHT OUTER JOINJ\x0ERIGHT ANY JOINJ\x0FRIGHT SEMI JOINJ\x0FRIGHT ANTI JOINR\x05RAID0R\x0BRAID_CHUNKSR\x0ERAID_CHUNKSIZER\x09RAID_TYPER\x05RANGER\x04READR\x09READ_ONLYR\x0AREAD_WRITER\x0AREFERENCESR\x06REGEXPR\x06RELOADR\x06RENAMER\x06REPAIRR\x0AREPEATABLER\x07REPLACER\x0BREPLICATIONR\x05RESETR\x07RESTORER\x08RESTRICTR\x06RETURNR\x07RETURNSR\x06REVOKER\x05RLIKER\x08ROLLBACKR\x03ROWR\x04ROWSR\x0AROW_FORMAT";
-
-const S_PHRASES: [u8; 601] =
-    *b"T\x0FSELECT DISTINCTT\x0ASELECT ALLT\x06SELECTT\x12SET CURRENT SCHEMAT\x0ASET SCHEMAT\x03SETJ\x09SEMI JOINR\x06SECONDR\x08SECURITYR\x09SEPARATORR\x0CSERIALIZABLER\x07SESSIONR\x05SHARER\x04SHOWR\x08SHUTDOWNR\x05SLAVER\x06SONAMER\x06SOUNDSR\x03SQLR\x10SQL_AUTO_IS_NULLR\x0ESQL_BIG_RESULTR\x0FSQL_BIG_SELECTSR\x0ESQL_BIG_TABLESR\x11SQL_BUFFER_RESULTR\x09SQL_CACHER\x13SQL_CALC_FOUND_ROWSR\x0BSQL_LOG_BINR\x0BSQL_LOG_OFFR\x0ESQL_LOG_UPDATER\x18SQL_LOW_PRIORITY_UPDATESR\x11SQL_MAX_JOIN_SIZER\x0CSQL_NO_CACHER\x15SQL_QUOTE_SHOW_CREATER\x10SQL_SAFE_UPDATESR\x10SQL_SELECT_LIMITR\x16SQL_SLAVE_SKIP_COUNTERR\x10SQL_SMALL_RESULTR\x0CSQL_WARNINGSR\x05STARTR\x08STARTINGR\x06STATUSR\x04STOPR\x07STORAGER\x0DSTRAIGHT_JOINR\x06STRINGR\x07STRIPEDR\x05SUPER";
-
-const T_PHRASES: [u8; 117] =
-    *b"R\x05TABLER\x06TABLESR\x09TEMPORARYR\x0ATERMINATEDR\x04THENR\x02TOR\x08TRAILINGR\x0DTRANSACTIONALR\x04TRUER\x08TRUNCATER\x04TYPER\x05TYPESR\x0DTBLPROPERTIES";
-
-const U_PHRASES: [u8; 84] =
-    *b"T\x06UPDATET\x05USINGI\x09UNION ALLI\x05UNIONR\x0BUNCOMMITTEDR\x06UNIQUER\x06UNLOCKR\x08UNSIGNEDR\x05USAGER\x03USE";
-
-const V_PHRASES: [u8; 35] = *b"T\x06VALUESN\x08VALIDATER\x09VARIABLESR\x04VIEW";
-
-const W_PHRASES: [u8; 46] = *b"T\x05WHERET\x06WINDOWN\x04WHENI\x04WITHR\x04WHENR\x04WORKR\x05WRITE";
-
-const X_PHRASES: [u8; 5] = *b"N\x03XOR";
-
-const Y_PHRASES: [u8; 12] = *b"R\x0AYEAR_MONTH";
 
 // The first phrase that stands at the start of the rest.
 pub fn find_phrase(rest: &[u8]) -> FoundPhrase
@@ -85,107 +16,107 @@ pub fn find_phrase(rest: &[u8]) -> FoundPhrase
     let letter = capital_of(rest[0]);
     match letter {
         b'$' => {
-            let table = DOLLAR_PHRASES;
+            let table = phrases::DOLLAR_PHRASES;
             find_in(&table, rest)
         }
         b'A' => {
-            let table = A_PHRASES;
+            let table = phrases::A_PHRASES;
             find_in(&table, rest)
         }
         b'B' => {
-            let table = B_PHRASES;
+            let table = phrases::B_PHRASES;
             find_in(&table, rest)
         }
         b'C' => {
-            let table = C_PHRASES;
+            let table = phrases::C_PHRASES;
             find_in(&table, rest)
         }
         b'D' => {
-            let table = D_PHRASES;
+            let table = phrases::D_PHRASES;
             find_in(&table, rest)
         }
         b'E' => {
-            let table = E_PHRASES;
+            let table = phrases::E_PHRASES;
             find_in(&table, rest)
         }
         b'F' => {
-            let table = F_PHRASES;
+            let table = phrases::F_PHRASES;
             find_in(&table, rest)
         }
         b'G' => {
-            let table = G_PHRASES;
+            let table = phrases::G_PHRASES;
             find_in(&table, rest)
         }
         b'H' => {
-            let table = H_PHRASES;
+            let table = phrases::H_PHRASES;
             find_in(&table, rest)
         }
         b'I' => {
-            let table = I_PHRASES;
+            let table = phrases::I_PHRASES;
             find_in(&table, rest)
         }
         b'J' => {
-            let table = J_PHRASES;
+            let table = phrases::J_PHRASES;
             find_in(&table, rest)
         }
         b'K' => {
-            let table = K_PHRASES;
+            let table = phrases::K_PHRASES;
             find_in(&table, rest)
         }
         b'L' => {
-            let table = L_PHRASES;
+            let table = phrases::L_PHRASES;
             find_in(&table, rest)
         }
         b'M' => {
-            let table = M_PHRASES;
+            let table = phrases::M_PHRASES;
             find_in(&table, rest)
         }
         b'N' => {
-            let table = N_PHRASES;
+            let table = phrases::N_PHRASES;
             find_in(&table, rest)
         }
         b'O' => {
-            let table = O_PHRASES;
+            let table = phrases::O_PHRASES;
             find_in(&table, rest)
         }
         b'P' => {
-            let table = P_PHRASES;
+            let table = phrases::P_PHRASES;
             find_in(&table, rest)
         }
         b'Q' => {
-            let table = Q_PHRASES;
+            let table = phrases::Q_PHRASES;
             find_in(&table, rest)
         }
         b'R' => {
-            let table = R_PHRASES;
+            let table = phrases::R_PHRASES;
             find_in(&table, rest)
         }
         b'S' => {
-            let table = S_PHRASES;
+            let table = phrases::S_PHRASES;
             find_in(&table, rest)
         }
         b'T' => {
-            let table = T_PHRASES;
+            let table = phrases::T_PHRASES;
             find_in(&table, rest)
         }
         b'U' => {
-            let table = U_PHRASES;
+            let table = phrases::U_PHRASES;
             find_in(&table, rest)
         }
         b'V' => {
-            let table = V_PHRASES;
+            let table = phrases::V_PHRASES;
             find_in(&table, rest)
         }
         b'W' => {
-            let table = W_PHRASES;
+            let table = phrases::W_PHRASES;
             find_in(&table, rest)
         }
         b'X' => {
-            let table = X_PHRASES;
+            let table = phrases::X_PHRASES;
             find_in(&table, rest)
         }
         b'Y' => {
-            let table = Y_PHRASES;
+            let table = phrases::Y_PHRASES;
             find_in(&table, rest)
         }
         0..=35 | 37..=64 | 90..=255 => FoundPhrase::Nothing,

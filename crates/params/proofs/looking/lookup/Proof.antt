@@ -39,7 +39,7 @@ use denote.Triple.Entry.{Args, Vals, onEntry}
 use denote.Triple.Spec.{Meets, tripleOf}
 use denote.Triple.Table.{entered, cited}
 use denote.Triple.Clauses.{Lasts, atExit, ensured, lasts}
-use denote.Triple.Walked.{Stays, stay-dropped, gave-ref, walkOf, goes-dropped, goes-gave-ref, Walks, ends-at, walked, walk-meets}
+use denote.Triple.Walked.{Stay, Stays, stay-dropped, gave-ref, walkOf, goes-dropped, goes-gave-ref, Walks, ends-at, walked, walk-meets}
 use denote.Exit.{yes}
 use Rattle.params.proofs.looking.lookup_together as together
 use Rattle.params.proofs.looking.lookup_together.Symbol as together-def
@@ -70,26 +70,11 @@ abbrev sizeT : Slot 6
 sizeT = plain (λ _. usize)
 
 -- at exit nothing is had of what was passed, but what says the last value of each `&mut`
+abbrev gone : (s : Slot 6) → Stay s yes
+gone s = stay-dropped s yes
+
 abbrev stayed : Stays (lookup.ended .signature .params) (lookup.ended .kept)
-stayed = (
-  stay-dropped statementT yes,
-  (
-    stay-dropped wordT yes,
-    (
-      stay-dropped wordT yes,
-      (
-        stay-dropped wordT yes,
-        (
-          stay-dropped sheetT yes,
-          (
-            stay-dropped sizeT yes,
-            (gave-ref (2 ∷ []) tt wordT, (gave-ref (3 ∷ []) tt wordT, (gave-ref (4 ∷ []) tt wordT, tt))),
-          ),
-        ),
-      ),
-    ),
-  ),
-)
+stayed = (gone statementT, (gone wordT, (gone wordT, (gone wordT, (gone sheetT, (gone sizeT, (gave-ref (2 ∷ []) tt wordT, (gave-ref (3 ∷ []) tt wordT, (gave-ref (4 ∷ []) tt wordT, tt)))))))))
 
 module _ {M : Type 1} (𝓤 : URA M) (H : Heap 𝓤) (A : Atoms 𝓤) (mem : Memory → SProp 𝓤) (run : Routine → Fun 𝓤) where
   -- the contract that the proof cites
@@ -210,25 +195,7 @@ module _ {M : Type 1} (𝓤 : URA M) (H : Heap 𝓤) (A : Atoms 𝓤) (W : Given
       → Walks 𝓤 H A lookup.ended stayed (WpFn 𝓤 H C Λ code.function) (lookup.clauses 𝓤 H A mem run)
   lookup-walks C Λ fm known = walked 𝓤 H A lookup.ended stayed (lookup.clauses 𝓤 H A mem run) (WpFn 𝓤 H C Λ code.function)
       (λ κs. (slice-vals, (uint-vals w64, (uint-vals w64, (uint-vals w64, (slice-vals, (uint-vals w64, (ptr-vals, (ptr-vals, (ptr-vals, tt))))))))))
-      (λ κs. (
-        shr-slice-tells (named 0) (κs .0) u8,
-        (
-          uint-tells w64,
-          (
-            uint-tells w64,
-            (
-              uint-tells w64,
-              (
-                shr-slice-tells (named 1) (κs .1 .0) u8,
-                (
-                  uint-tells w64,
-                  (mut-tells (named 2) (κs .1 .1 .0) u64, (mut-tells (named 3) (κs .1 .1 .1 .0) u64, (mut-tells (named 4) (κs .1 .1 .1 .1 .0) u64, tt))),
-                ),
-              ),
-            ),
-          ),
-        ),
-      ))
+      (λ κs. (shr-slice-tells (named 0) (κs .0) u8, (uint-tells w64, (uint-tells w64, (uint-tells w64, (shr-slice-tells (named 1) (κs .1 .0) u8, (uint-tells w64, (mut-tells (named 2) (κs .1 .1 .0) u64, (mut-tells (named 3) (κs .1 .1 .1 .0) u64, (mut-tells (named 4) (κs .1 .1 .1 .1 .0) u64, tt))))))))))
       (λ κs qs bounds a g are. via 𝓤 _ (fst∗ 𝓤 _ (emp 𝓤))
       (walk 𝓤 H A W mem run (κs .0) (κs .1 .0) (κs .1 .1 .0) (κs .1 .1 .1 .0) (κs .1 .1 .1 .1 .0) (κs .1 .1 .1 .1 .1 .0) (qs .0) (qs .1 .0) (qs .1 .1 .0) (qs .1 .1 .1 .0) (qs .1 .1 .1 .1 .0) (qs .1 .1 .1 .1 .1 .0) (bounds .0) (bounds .1 .0)
       (a .0) (a .1 .0) (a .1 .1 .0) (a .1 .1 .1 .0) (a .1 .1 .1 .1 .0) (a .1 .1 .1 .1 .1 .0) (a .1 .1 .1 .1 .1 .1 .0) (a .1 .1 .1 .1 .1 .1 .1 .0) (a .1 .1 .1 .1 .1 .1 .1 .1 .0) C Λ fm known
@@ -236,25 +203,8 @@ module _ {M : Type 1} (𝓤 : URA M) (H : Heap 𝓤) (A : Atoms 𝓤) (W : Given
 
 lookup-meets : {M : Type 1} (𝓤 : URA M) (H : Heap 𝓤) (A : Atoms 𝓤) → Given 𝓤 H A → (mem : Memory → SProp 𝓤) (run : Routine → Fun 𝓤) (𝓣 : Tables 𝓤 H) → Triple 𝓤 (𝓣 .C #together) (Together 𝓤 H A mem run)
     → Meets 𝓤 H A lookup.signature (WpFn 𝓤 H (𝓣 .C) (𝓣 .Λ) code.function) (lookup.spec 𝓤 H A mem run)
-lookup-meets 𝓤 H A W mem run 𝓣 known = walk-meets 𝓤 H A lookup.ended stayed W (
-  goes-dropped 𝓤 H A W 6 statementT yes (λ κs x f. refl),
-  (
-    goes-dropped 𝓤 H A W 6 wordT yes (λ κs x f. refl),
-    (
-      goes-dropped 𝓤 H A W 6 wordT yes (λ κs x f. refl),
-      (
-        goes-dropped 𝓤 H A W 6 wordT yes (λ κs x f. refl),
-        (
-          goes-dropped 𝓤 H A W 6 sheetT yes (λ κs x f. refl),
-          (
-            goes-dropped 𝓤 H A W 6 sizeT yes (λ κs x f. refl),
-            (goes-gave-ref 𝓤 H A W 6 2 tt wordT, (goes-gave-ref 𝓤 H A W 6 3 tt wordT, (goes-gave-ref 𝓤 H A W 6 4 tt wordT, tt))),
-          ),
-        ),
-      ),
-    ),
-  ),
-)
+lookup-meets 𝓤 H A W mem run 𝓣 known = let drops = goes-dropped 𝓤 H A W 6 in walk-meets 𝓤 H A lookup.ended stayed W
+    (drops statementT yes (λ κs x f. refl), (drops wordT yes (λ κs x f. refl), (drops wordT yes (λ κs x f. refl), (drops wordT yes (λ κs x f. refl), (drops sheetT yes (λ κs x f. refl), (drops sizeT yes (λ κs x f. refl), (goes-gave-ref 𝓤 H A W 6 2 tt wordT, (goes-gave-ref 𝓤 H A W 6 3 tt wordT, (goes-gave-ref 𝓤 H A W 6 4 tt wordT, tt)))))))))
     (lookup.clauses 𝓤 H A mem run) (WpFn 𝓤 H (𝓣 .C) (𝓣 .Λ) code.function) (WpFn-mono 𝓤 H (W .laws) 𝓣 code.function) (lookup-walks 𝓤 H A W mem run (𝓣 .C) (𝓣 .Λ) (fmOf 𝓤 H (W .laws) 𝓣) known)
 
 pub lookup-spec : {M : Type 1} → stated.statement M

@@ -2,145 +2,60 @@
 """Prints tests/vectors/tokenize.txt: searches, settings, and what tokenise must
 answer to them.
 
-    python3 tools/vectors.py > tests/vectors/tokenize.txt
+    python3 tools/tokenize_vectors.py > tests/vectors/tokenize.txt
 
 The answers come from tools/reading.py. The cases below are chosen by hand, but
 for two groups of random texts with a fixed seed. Beside that, this file says
-what document 01 and the phrase lists of 000 say about a case by themselves,
-and stops where the reading disagrees (`worked`, `phrases`).
+what document 01 says about a case by itself, and which kind a phrase of each
+recogniser has, and stops where the reading disagrees (`worked`, `phrases`).
 """
 
 import random
 import sys
-from pathlib import Path
 
 sys.dont_write_bytecode = True
-sys.path.insert(0, str(Path(__file__).resolve().parent))
 import reading  # noqa: E402
+from reading import (  # noqa: E402
+    BLOCK_COMMENT,
+    CLOSE_PAREN,
+    LINE_COMMENT,
+    NUMBER,
+    OPEN_PAREN,
+    OPERATOR,
+    PLACEHOLDER,
+    RESERVED,
+    SQLSERVER,
+    STRING,
+    TYPE_SPECIFIER,
+    WHITESPACE,
+    WORD,
+    spelled,
+)
+from reading import RESERVED_NEWLINE as NEWLINE  # noqa: E402
+from reading import RESERVED_NEWLINE_AFTER as NEWLINE_AFTER  # noqa: E402
+from reading import RESERVED_TOP_LEVEL as TOP_LEVEL  # noqa: E402
+from reading import RESERVED_TOP_LEVEL_NO_INDENT as NO_INDENT  # noqa: E402
+from vector_file import MANY, Searches  # noqa: E402
 
-GENERIC, POSTGRESQL, SQLSERVER = 0, 1, 2
-DIALECTS = (GENERIC, POSTGRESQL, SQLSERVER)
-MANY = 70000
+DIALECTS = (0, 1, 2)
 
-HEAD = """\
-# Searches, settings and tokenise's answers.
-#
-# The expected answers come from a reading of src/tokenizer.rs in Python
-# (tools/reading.py), made independently of the port and never from its output.
-# The worked searches of document 01 were laid beside it by hand. Printed by
-# tools/vectors.py.
-#
-# s TEXT   the statement: the rest of the line after `s `, with \\n \\r \\t \\\\
-#          and \\xHH (one byte) as escapes; every other byte stands for itself
-# f N B    the statement: N times the byte B (decimal)
-# o D J N R  dialect, joins, named, and the number of 28-byte records lent; they
-#          stay until the next `o`
-# = N D    a check: number and detail of the call on the present statement
-# r K S L A K A B  a check: the next record of that call, from the first on
-# u        a check: that call was refused and wrote no byte of the table
+ABOUT = """\
+Searches, settings and tokenise's answers. They come from a reading of src/tokenizer.rs in Python (tools/reading.py), made
+independently of the port and never from its output. The worked searches of document 01 were laid beside it by hand. Printed
+by tools/tokenize_vectors.py.
 """
 
-# --------------------------------------------------------------------------
-# Writing a case
 
-
-def escaped(statement):
-    """The TEXT of an `s` line. Bytes that are no well-formed UTF-8, characters
-    that one does not see or that join onto others, and a last space stand as
-    escapes; letters and a few signs stand for themselves."""
-    try:
-        pieces = list(statement.decode("utf-8"))
-    except UnicodeDecodeError:
-        pieces = [bytes([byte]) for byte in statement]
-    plain = {"\\": "\\\\", "\n": "\\n", "\r": "\\r", "\t": "\\t"}
-    written = []
-    for at, piece in enumerate(pieces):
-        if isinstance(piece, bytes):
-            piece = chr(piece[0]) if piece[0] < 0x80 else piece
-        if piece in plain:
-            written.append(plain[piece])
-        elif piece == " " and at == len(pieces) - 1:
-            written.append("\\x20")
-        elif isinstance(piece, str) and (
-            " " <= piece <= "~"
-            or piece in "€😀✓数字"
-            or ("\u00c0" <= piece <= "\u052f" and reading.is_alphanumeric(piece))
-        ):
-            written.append(piece)
-        else:
-            raw = piece.encode("utf-8") if isinstance(piece, str) else piece
-            written.append("".join(f"\\x{byte:02x}" for byte in raw))
-    return "".join(written)
-
-
-class Vectors:
-    def __init__(self):
-        self.lines = [HEAD.rstrip("\n"), "", f"o 0 0 0 {MANY}"]
-        self.options = (0, 0, 0, MANY)
-        self.seen = set()
-
-    def group(self, title):
-        self.lines += ["", "# " + title]
-
-    def case(self, text, dialect=0, joins=0, named=0, lent=MANY, repeat=None, first=None):
-        """One call: all its records, or the `first` so many of them. `repeat` is
-        the count for a statement of one byte, written as an `f` line."""
-        statement = text if isinstance(text, bytes) else text.encode("utf-8")
-        options = (dialect, joins, named, lent)
-        if repeat is not None:
-            statement = statement * repeat
-        if (statement, options) in self.seen:
-            return
-        self.seen.add((statement, options))
-        if options != self.options:
-            self.lines.append("o %d %d %d %d" % options)
-            self.options = options
-        if repeat is not None or statement == b"":
-            # No line ends in a blank, so the empty statement is an `f` too.
-            byte = statement[0] if statement else 32
-            self.lines.append(f"f {len(statement)} {byte}")
-        else:
-            self.lines.append("s " + escaped(statement))
+class Tokenized(Searches):
+    def expect(self, statement, options):
         number, detail, records = reading.answer(statement, *options)
-        self.lines.append(f"= {number} {detail}")
-        if number != 0:
-            self.lines.append("u")
-            return
-        for record in records[:first]:
-            self.lines.append("r %d %d %d %d %d %d %d" % record)
-
-    def every_setting(self, text):
-        for dialect in DIALECTS:
-            for named in (0, 1):
-                self.case(text, dialect, 0, named)
-
-    def every_dialect(self, text):
-        for dialect in DIALECTS:
-            self.case(text, dialect)
+        self.check("=", number, detail)
+        self.records(records)
 
 
 # --------------------------------------------------------------------------
 # Document 01's worked searches, with what it says of each. Whitespace tokens
 # are left out, as there. Kinds by name, then values where the paper names them.
-
-(
-    TYPE_SPECIFIER,
-    WHITESPACE,
-    STRING,
-    RESERVED,
-    TOP_LEVEL,
-    NO_INDENT,
-    NEWLINE,
-    NEWLINE_AFTER,
-    OPERATOR,
-    OPEN_PAREN,
-    CLOSE_PAREN,
-    LINE_COMMENT,
-    BLOCK_COMMENT,
-    NUMBER,
-    PLACEHOLDER,
-    WORD,
-) = range(16)
 
 # text, dialect, named, expected: a list of (kind, value)
 WORKED = (
@@ -288,57 +203,16 @@ def worked(vectors):
 
 
 # --------------------------------------------------------------------------
-# The phrases of 000, each group by itself, spelled out.
+# The phrases of 000, each recogniser's by themselves.
 
-CREATABLE = ["AGGREGATE", "FUNCTION", "LANGUAGE", "PROCEDURE", "RULE", "TRIGGER", "VIEW"]
-ALTERABLE = CREATABLE + ["TABLE", "INDEX"]
 
-TOP_LEVEL_PHRASES = (
-    ["AFTER"]
-    + ["ALTER " + thing for thing in ALTERABLE]
-    + ["CREATE " + thing for thing in CREATABLE]
-    + ["CREATE OR REPLACE " + thing for thing in CREATABLE]
-    + ["CREATE INDEX", "CREATE UNIQUE INDEX"]
-    + [
-        "CREATE TABLE",
-        "CREATE UNLOGGED TABLE",
-        "CREATE GLOBAL TABLE",
-        "CREATE GLOBAL TEMPORARY TABLE",
-        "CREATE GLOBAL TEMP TABLE",
-        "CREATE LOCAL TABLE",
-        "CREATE LOCAL TEMPORARY TABLE",
-        "CREATE LOCAL TEMP TABLE",
-    ]
-    + ["DELETE FROM"]
-    + ["DROP " + thing for thing in ALTERABLE]
-    + ["DROP " + thing + " IF EXISTS" for thing in ALTERABLE]
-    + ["EXCEPT"]
-    + ["FETCH FIRST", "FROM"]
-    + ["FOR UPDATE", "FOR NO KEY UPDATE", "FOR SHARE", "FOR KEY SHARE"]
-    + ["GROUP BY", "GO", "HAVING", "INSERT INTO", "INSERT", "LIMIT"]
-    + ["MODIFY", "MERGE INTO", "ORDER BY", "ON CONFLICT", "PARTITION BY", "RETURNING"]
-    + ["SELECT DISTINCT", "SELECT ALL", "SELECT"]
-    + ["SET CURRENT SCHEMA", "SET SCHEMA", "SET"]
-    + ["UPDATE", "USING", "VALUES", "WHERE", "WINDOW"]
-)
+def top_level_phrases():
+    """By their first letter; those with IF EXISTS behind the others"""
+    arms = [spelled(arm) for arm in reading.TOP_LEVEL.values()]
+    return [phrase for arm in arms for phrase in sorted(arm, key=lambda text: text.endswith(" IF EXISTS"))]
 
-NEWLINE_AFTER_PHRASES = ["DO UPDATE SET"]
 
-NEWLINE_PHRASES = [
-    "CROSS APPLY", "OUTER APPLY", "AND", "OR", "XOR", "WHEN", "ELSE",
-    "ADD", "DROP", "ALTER", "VALIDATE", "ENABLE", "DISABLE",
-]  # fmt: skip
-
-JOIN_PHRASES = [
-    "JOIN", "INNER JOIN", "LEFT JOIN", "RIGHT JOIN", "FULL JOIN", "CROSS JOIN",
-    "LEFT OUTER JOIN", "RIGHT OUTER JOIN", "FULL OUTER JOIN",
-    "INNER ANY JOIN", "LEFT ANY JOIN", "RIGHT ANY JOIN", "ANY JOIN", "SEMI JOIN",
-    "LEFT SEMI JOIN", "RIGHT SEMI JOIN", "LEFT ANTI JOIN", "RIGHT ANTI JOIN",
-    "ASOF JOIN", "LEFT ASOF JOIN", "PASTE JOIN",
-    "GLOBAL INNER JOIN", "GLOBAL LEFT JOIN", "GLOBAL RIGHT JOIN", "GLOBAL FULL JOIN",
-]  # fmt: skip
-
-# Not phrases, though they look like ones of the list above.
+# Not phrases, though they look like joins.
 NEAR_JOINS = [
     "INNER", "LEFT", "RIGHT", "FULL", "CROSS", "OUTER", "OUTER JOIN", "ANTI JOIN",
     "INNER OUTER JOIN", "FULL ANY JOIN", "FULL SEMI JOIN", "INNER SEMI JOIN", "INNER ANTI JOIN",
@@ -346,63 +220,6 @@ NEAR_JOINS = [
     "GLOBAL LEFT OUTER JOIN", "GLOBAL ANY JOIN", "NATURAL JOIN", "STRAIGHT_JOIN", "LEFT  OUTER",
     "SEMI", "ASOF", "PASTE", "GLOBAL", "JOINS", "JOIN_", "JOIN1", "JOIN.", "JOIN JOIN",
 ]  # fmt: skip
-
-NO_INDENT_PHRASES = [
-    "BEGIN", "DECLARE", "INTERSECT ALL", "INTERSECT", "MINUS", "UNION ALL", "UNION", "WITH", "$$",
-]  # fmt: skip
-
-PLAIN_TWO_PHRASES = [
-    "CHARACTER SET", "DO NOTHING", "ON CONFLICT", "ON CONSTRAINT", "ON DELETE", "ON UPDATE",
-    "DISTINCT FROM", "PARTITIONED BY",
-]  # fmt: skip
-
-PLAIN_ONE_PHRASES = """
-ACCESSIBLE ACTION AGAINST AGGREGATE ALGORITHM ALL ALTER ANALYSE ANALYZE AS ASC
-AUTOCOMMIT AUTO_INCREMENT
-BACKUP BETWEEN BINLOG BOTH
-CASCADE CASE CHANGE CHANGED CHARSET CHECK CHECKSUM COLLATE COLLATION COLUMN
-COLUMNS COMMENT COMMIT COMMITTED COMPRESSED CONCURRENT CONSTRAINT CONTAINS
-CONVERT CREATE CROSS CURRENT_TIMESTAMP
-DATABASE DATABASES DAY DAY_HOUR DAY_MINUTE DAY_SECOND DEFAULT DEFINER DELAYED
-DELETE DESC DESCRIBE DETERMINISTIC DISTINCT DISTINCTROW DIV DO DROP DUMPFILE
-DUPLICATE DYNAMIC
-ELSE ENCLOSED END ENGINE ENGINES ENGINE_TYPE ESCAPE ESCAPED EVENTS EXEC EXECUTE
-EXISTS EXPLAIN EXTENDED
-FAST FETCH FIELDS FILE FIRST FIXED FLUSH FOR FORCE FOREIGN FULL FULLTEXT
-FUNCTION
-GLOBAL GRANT GRANTS GROUP_CONCAT
-HEAP HIGH_PRIORITY HOSTS HOUR HOUR_MINUTE HOUR_SECOND
-IDENTIFIED IF IFNULL IGNORE IN INDEX INDEXES INFILE INSERT INSERT_ID
-INSERT_METHOD INTERVAL INTO INVOKER IS ISOLATION
-KEY KEYS KILL
-LAST_INSERT_ID LEADING LEVEL LIKE LINEAR LINES LOAD LOCAL LOCK LOCKS LOGS
-LOW_PRIORITY
-MARIA MASTER MASTER_CONNECT_RETRY MASTER_HOST MASTER_LOG_FILE MATCH
-MAX_CONNECTIONS_PER_HOUR MAX_QUERIES_PER_HOUR MAX_ROWS MAX_UPDATES_PER_HOUR
-MAX_USER_CONNECTIONS MEDIUM MERGE MINUTE MINUTE_SECOND MIN_ROWS MODE MODIFY
-MONTH MRG_MYISAM MYISAM
-NAMES NATURAL NOT NOW() NULL
-OFFSET ON ONLY OPEN OPTIMIZE OPTION OPTIONALLY OUTFILE
-PACK_KEYS PAGE PARTIAL PARTITION PARTITIONS PASSWORD PRIMARY PRIVILEGES
-PROCEDURE PROCESS PROCESSLIST PURGE
-QUICK
-RAID0 RAID_CHUNKS RAID_CHUNKSIZE RAID_TYPE RANGE READ READ_ONLY READ_WRITE
-REFERENCES REGEXP RELOAD RENAME REPAIR REPEATABLE REPLACE REPLICATION RESET
-RESTORE RESTRICT RETURN RETURNS REVOKE RLIKE ROLLBACK ROW ROWS ROW_FORMAT
-SECOND SECURITY SEPARATOR SERIALIZABLE SESSION SHARE SHOW SHUTDOWN SLAVE SONAME
-SOUNDS SQL SQL_AUTO_IS_NULL SQL_BIG_RESULT SQL_BIG_SELECTS SQL_BIG_TABLES
-SQL_BUFFER_RESULT SQL_CACHE SQL_CALC_FOUND_ROWS SQL_LOG_BIN SQL_LOG_OFF
-SQL_LOG_UPDATE SQL_LOW_PRIORITY_UPDATES SQL_MAX_JOIN_SIZE SQL_NO_CACHE
-SQL_QUOTE_SHOW_CREATE SQL_SAFE_UPDATES SQL_SELECT_LIMIT SQL_SLAVE_SKIP_COUNTER
-SQL_SMALL_RESULT SQL_WARNINGS START STARTING STATUS STOP STORAGE STRAIGHT_JOIN
-STRING STRIPED SUPER
-TABLE TABLES TEMPORARY TERMINATED THEN TO TRAILING TRANSACTIONAL TRUE TRUNCATE
-TYPE TYPES TBLPROPERTIES
-UNCOMMITTED UNIQUE UNLOCK UNSIGNED USAGE USE
-VARIABLES VIEW
-WHEN WORK WRITE
-YEAR_MONTH
-""".split()
 
 # Phrases of a later group that an earlier recogniser takes, with the kind they
 # have then; and USING, which no earlier token makes top level.
@@ -420,13 +237,14 @@ TAKEN_EARLIER = {
 }
 
 GROUPS = (
-    ("top level", TOP_LEVEL, TOP_LEVEL_PHRASES),
-    ("newline after", NEWLINE_AFTER, NEWLINE_AFTER_PHRASES),
-    ("newline", NEWLINE, NEWLINE_PHRASES),
-    ("joins", NEWLINE, JOIN_PHRASES),
-    ("top level, no indent", NO_INDENT, NO_INDENT_PHRASES),
-    ("plain, two words", RESERVED, PLAIN_TWO_PHRASES),
-    ("plain, one word", RESERVED, PLAIN_ONE_PHRASES),
+    ("top level", TOP_LEVEL, top_level_phrases()),
+    ("newline after", NEWLINE_AFTER, spelled(reading.ON_CONFLICT)),
+    ("newline", NEWLINE, spelled(reading.NEWLINE)),
+    ("joins", NEWLINE, spelled(reading.JOINS)),
+    ("top level, no indent", NO_INDENT, spelled(reading.NO_INDENT)),
+    ("plain, two words", RESERVED, spelled(reading.PLAIN_TWO)),
+    # some stand there twice
+    ("plain, one word", RESERVED, list(dict.fromkeys(spelled(reading.PLAIN_ONE)))),
 )
 
 
@@ -915,11 +733,11 @@ def refusals(vectors):
     vectors.case(b"a", repeat=65537)
     vectors.case(b"a", repeat=65536, lent=0)
     vectors.case(b"a", repeat=65535)
-    vectors.case(b";", repeat=65536, lent=65536, first=4)
+    vectors.case(b";", repeat=65536, lent=65536)
     vectors.case(b";", repeat=65536, lent=65535)
     vectors.case(b";", repeat=65536, lent=0)
-    vectors.case(b";", repeat=65535, lent=65535, first=4)
-    vectors.case(b"=", repeat=65536, first=4)
+    vectors.case(b";", repeat=65535, lent=65535)
+    vectors.case(b"=", repeat=65536)
     vectors.case(b"-", repeat=65536)
     vectors.case(b"#", repeat=65536)
     vectors.case(b"1", repeat=65536)
@@ -927,11 +745,11 @@ def refusals(vectors):
     vectors.case(b"'", repeat=65535)
     vectors.case(b"\n", repeat=65536)
     vectors.case(b"\r", repeat=65536)
-    vectors.case(b"\x00", repeat=300, first=4)
-    vectors.case(b"$", repeat=1000, first=4)
-    vectors.case(b"?", repeat=65536, first=4)
+    vectors.case(b"\x00", repeat=300)
+    vectors.case(b"$", repeat=1000)
+    vectors.case(b"?", repeat=65536)
     vectors.case(b"?", repeat=65537)
-    vectors.case(b"(", repeat=65536, first=4)
+    vectors.case(b"(", repeat=65536)
     vectors.case(b"a", repeat=100000)
     vectors.case(b"a", repeat=131072)
 
@@ -1031,10 +849,10 @@ GROUPS_OF_CASES = (
 
 
 def main():
-    vectors = Vectors()
+    vectors = Tokenized(ABOUT, "sfo=rn")
     for group in GROUPS_OF_CASES:
         group(vectors)
-    sys.stdout.buffer.write(("\n".join(vectors.lines) + "\n").encode("utf-8"))
+    vectors.print()
 
 
 if __name__ == "__main__":

@@ -2,43 +2,26 @@
 """Prints tests/vectors/tighten.txt: searches, settings, and what tighten must
 answer and write.
 
-    python3 tools/tight_vectors.py > tests/vectors/tighten.txt
+    python3 tools/tighten_vectors.py > tests/vectors/tighten.txt
 
 The tokens come from tools/reading.py, and the tight text from document 01's
-sentence on them (`tight`). The searches are those of tools/vectors.py and the
-ones below. What document 01 says of a search by itself is written out here,
+sentence on them (`tight`). The searches are those of tools/tokenize_vectors.py
+and the ones below. What document 01 says of a search by itself is written out here,
 and this program stops where it comes to another text (`worked`).
 """
 
 import sys
-from pathlib import Path
 
 sys.dont_write_bytecode = True
-sys.path.insert(0, str(Path(__file__).resolve().parent))
 import reading  # noqa: E402
-import vectors  # noqa: E402
+import tokenize_vectors  # noqa: E402
+from vector_file import MANY, Searches  # noqa: E402
 
-MANY = 70000
-LONGEST = 200
-
-HEAD = """\
-# Searches, settings, tighten's answers and the tight texts.
-#
-# The expected texts are made from the tokens of a reading of src/tokenizer.rs in
-# Python (tools/reading.py) by document 01's sentence on tight text, independently
-# of the port and never from its output. The searches are those of tokenize.txt
-# shorter than 200 bytes, and more with gaps of every sort. What document 01 says of
-# a search by itself was laid beside it by hand. Printed by tools/tight_vectors.py.
-#
-# s TEXT   the statement: the rest of the line after `s `, with \\n \\r \\t \\\\
-#          and \\xHH (one byte) as escapes; every other byte stands for itself
-# f N B    the statement: N times the byte B (decimal)
-# o D J N R  dialect, joins, named, and the number of bytes lent; they stay until
-#          the next `o`
-# = N D    a check: number and detail of the call on the present statement
-# t TEXT   a check: the text that this call has written
-# g N B    the same: N times the byte B
-# Where a call has neither `t` nor `g`, it has written nothing.
+ABOUT = """\
+Searches, settings, tighten's answers and the tight texts. They are made from the tokens of a reading of src/tokenizer.rs in
+Python (tools/reading.py) by document 01's sentence on tight text, independently of the port and never from its output. The
+searches are those of tokenize.txt, and more with gaps of every sort. What document 01 says of a search by itself was laid
+beside it by hand. Printed by tools/tighten_vectors.py.
 """
 
 
@@ -46,15 +29,15 @@ def tight(statement, records):
     """Each token's value in order; a gap becomes one LF after a line comment,
     else one space; outer gaps go."""
     tokens = [(record[0], statement[record[1] : record[1] + record[2]]) for record in records]
-    while tokens and tokens[0][0] == vectors.WHITESPACE:
+    while tokens and tokens[0][0] == reading.WHITESPACE:
         tokens = tokens[1:]
-    while tokens and tokens[-1][0] == vectors.WHITESPACE:
+    while tokens and tokens[-1][0] == reading.WHITESPACE:
         tokens = tokens[:-1]
     text = b""
     before = None
     for kind, value in tokens:
-        if kind == vectors.WHITESPACE:
-            text += b"\n" if before == vectors.LINE_COMMENT else b" "
+        if kind == reading.WHITESPACE:
+            text += b"\n" if before == reading.LINE_COMMENT else b" "
         else:
             text += value
         before = kind
@@ -72,40 +55,11 @@ def answer(statement, dialect, joins, named, lent):
     return 0, len(text), text
 
 
-class Tightened(vectors.Vectors):
-    def __init__(self):
-        super().__init__()
-        self.lines = [HEAD.rstrip("\n"), "", f"o 0 0 0 {MANY}"]
-        self.options = (0, 0, 0, MANY)
-
-    def case(self, text, dialect=0, joins=0, named=0, lent=MANY, repeat=None, first=None):
-        """One call, with so many bytes lent. A long statement is one byte, repeated."""
-        statement = text if isinstance(text, bytes) else text.encode("utf-8")
-        if repeat is not None:
-            statement = statement * repeat
-        elif len(statement) >= LONGEST:
-            return
-        options = (dialect, joins, named, lent)
-        if (statement, options) in self.seen:
-            return
-        self.seen.add((statement, options))
-        if options != self.options:
-            self.lines.append("o %d %d %d %d" % options)
-            self.options = options
-        self.lines.append(written("s", "f", statement))
+class Tightened(Searches):
+    def expect(self, statement, options):
         number, detail, text = answer(statement, *options)
-        self.lines.append(f"= {number} {detail}")
-        if text:
-            self.lines.append(written("t", "g", text))
-
-
-def written(plain, repeated, text):
-    """The line for a text; no line ends in a blank, so the empty one is a repetition"""
-    if len(text) >= LONGEST or not text:
-        if text.strip(text[:1]):
-            sys.exit(f"a long text that is not one byte, repeated: {text[:40]!r}")
-        return f"{repeated} {len(text)} {text[0] if text else 32}"
-    return plain + " " + vectors.escaped(text)
+        self.check("=", number, detail)
+        self.text(text)
 
 
 # --------------------------------------------------------------------------
@@ -220,14 +174,10 @@ def limits(lines):
 
 
 def main():
-    lines = Tightened()
-    worked(lines)
-    gaps(lines)
-    room(lines)
-    limits(lines)
-    for group in vectors.GROUPS_OF_CASES:
+    lines = Tightened(ABOUT, "sfo=tg")
+    for group in (worked, gaps, room, limits, *tokenize_vectors.GROUPS_OF_CASES):
         group(lines)
-    sys.stdout.buffer.write(("\n".join(lines.lines) + "\n").encode("utf-8"))
+    lines.print()
 
 
 if __name__ == "__main__":
