@@ -63,7 +63,7 @@ $(build)/utf8: tests/unicode/utf8.rs tests/unicode/unicode.rs target/staticlib/l
 	@mkdir -p $(build)
 	$(rust) -o $@ $< -L target/staticlib -l static=unicode_exports
 
-$(build)/bench_%: bench/%.rs bench/timing.rs bench/searches.rs bench/scanner.c tests/calls.rs tests/random/texts.rs $(archive)
+$(build)/bench_%: bench/%.rs bench/timing.rs bench/searches.rs bench/scanner.rs bench/scanner.c tests/calls.rs tests/random/texts.rs $(archive)
 	@mkdir -p $(build)
 	$(c) -c -o $(build)/scanner.o bench/scanner.c
 	rm -f $(build)/libscanner.a
@@ -98,7 +98,7 @@ $(build)/random_%: tests/random/%.rs $(wildcard tests/random/*.rs) tests/calls.r
 	@mkdir -p $(build)
 	$(rust) -o $@ $< -L target/staticlib -l static=ventpeeler
 
-$(build)/stack_%: tests/stack/%.rs $(wildcard tests/stack/*) tests/random/texts.rs include/ventpeeler.h $(archive)
+$(build)/stack_%: tests/stack/%.rs $(wildcard tests/stack/*) tests/calls.rs tests/random/texts.rs include/ventpeeler.h $(archive)
 	@mkdir -p $(build)
 	$(c) -c -o $(build)/painted.o tests/stack/painted.c
 	$(c) -c -o $(build)/painted_fill.o tests/stack/painted_fill.c

@@ -2,16 +2,14 @@
 // statement and sheet together.
 #[path = "../tests/calls.rs"]
 mod calls;
+mod scanner;
 mod searches;
 mod timing;
 
 use calls::{fill, DONE, RECORD};
+use scanner::scan;
 use std::hint::black_box;
 use timing::{text, time_slow, together};
-
-extern "C" {
-    fn plain_scan(text: *const u8, length: usize, records: *mut u8, room: usize) -> usize;
-}
 
 const NAMED: u8 = 1;
 const INDEXED: u8 = 2;
@@ -35,10 +33,6 @@ fn wide_sheet(kind: u8, most: usize) -> Vec<u8> {
     let mut entries = vec![(name, "7"); (most - 3) / entry];
     *entries.last_mut().unwrap() = (last, "8");
     sheet(kind, &entries)
-}
-
-fn scan(text: &[u8], records: &mut [u8]) {
-    black_box(unsafe { plain_scan(text.as_ptr(), text.len(), records.as_mut_ptr(), records.len()) });
 }
 
 fn filled(text: &[u8], sheet: &[u8], output: &mut [u8]) {

@@ -2,21 +2,15 @@
 // run; and how their time grows with texts that could be slow.
 #[path = "../tests/calls.rs"]
 mod calls;
+mod scanner;
 mod searches;
 mod timing;
 
 use calls::{tighten, tokenize, Answer, DONE, RECORD};
+use scanner::scan;
 use searches::texts::{hard, HARD};
 use std::hint::black_box;
 use timing::{time_slow, together};
-
-extern "C" {
-    fn plain_scan(text: *const u8, length: usize, records: *mut u8, room: usize) -> usize;
-}
-
-fn scan(text: &[u8], records: &mut [u8]) {
-    black_box(unsafe { plain_scan(text.as_ptr(), text.len(), records.as_mut_ptr(), records.len()) });
-}
 
 fn done(answer: Answer) {
     assert!(black_box(answer).0 == DONE);

@@ -115,7 +115,7 @@ WORKED = (
         0,
         [(NEWLINE, "DROP"), (RESERVED, "TABLE"), (RESERVED, "IF"), (WORD, "EXISTSX")],
     ),
-    # design.md's finding: not the key `'ab` that the paper names
+    # the identifier form is tried first: not the key `'ab` that document 01 names
     ("@N'ab'", 0, 0, [(PLACEHOLDER, "@N"), (STRING, "'ab'")]),
     ("? ?1 ?", 0, 0, [(PLACEHOLDER, "?"), (PLACEHOLDER, "?1"), (PLACEHOLDER, "?")]),
     # tight and filled text

@@ -1,4 +1,6 @@
 // The stack that one call of fill takes, beside what the header states.
+#[path = "../calls.rs"]
+mod calls;
 mod painting;
 #[path = "../random/texts.rs"]
 mod texts;

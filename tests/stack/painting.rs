@@ -1,4 +1,5 @@
 // The stack that one call takes: the worst over hard texts and texts at random.
+use crate::calls::{Settings, MOST, RECORD};
 use crate::texts::{self, Chance, HARD};
 use std::ffi::c_void;
 
@@ -6,7 +7,7 @@ use std::ffi::c_void;
 pub struct Call {
     statement: *const u8,
     statement_len: usize,
-    settings: [u64; 3],
+    settings: Settings,
     sheet: *const u8,
     sheet_len: usize,
     lent: *mut u8,
@@ -23,7 +24,7 @@ extern "C" {
 
 pub type Painted = unsafe extern "C" fn(*mut c_void);
 
-fn make(painted: Painted, text: &[u8], settings: [u64; 3], sheet: &[u8], lent: &mut [u8]) {
+fn make(painted: Painted, text: &[u8], settings: Settings, sheet: &[u8], lent: &mut [u8]) {
     let mut call = Call {
         statement: text.as_ptr(),
         statement_len: text.len(),
@@ -48,7 +49,7 @@ fn deeper(worst: (usize, &'static str), name: &'static str) -> (usize, &'static 
 
 // How deep the calls go, and the first text that went there.
 fn deepest(painted: Painted, sheet: &[u8], random: usize) -> (usize, &'static str) {
-    let mut lent = vec![0; 65536 * 28];
+    let mut lent = vec![0; MOST * RECORD];
     let mut chance = Chance::new(2);
     let mut worst = (0, "none");
     unsafe { paint_stack() };

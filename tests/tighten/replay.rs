@@ -21,7 +21,8 @@ fn main() {
         let (number, _) = count.check_call(&check, |output| calls::tighten(text, settings, output));
         if number == DONE && !has_lone_cr(text) {
             let (first, second) = (list(text, settings), list(&check.text, settings));
-            count.check(check.line, first.is_some() && first == second, || "the tight text has other tokens".to_string());
+            let same = first.is_some() && first == second;
+            count.check(check.line, same, || "the tight text has other tokens".to_string());
             compared += 1;
         }
     }
