@@ -7,7 +7,7 @@ use mathlib.Core.List.{List, _++_}
 use borrow.Author.Tests.{lt-ltb, le-ltb}
 use lib.ListN.{length, drop}
 use lib.Seq.{sets, sets-eq}
-use Rattle.tight.specs.Answers.{textAfter}
+use Rattle.calls.specs.Texts.{textAfter}
 use Rattle.params.specs.declared.Part.{Part}
 use Rattle.params.specs.declared.Part.the-variants.{Statement, Sheet}
 use Rattle.calls_exports.specs.Places.{sourceOf, startOf}

@@ -1,11 +1,11 @@
 // Twins of the calls that serve Rattle callers alone, for tests that are written in Rust: they link libcalls_exports.a. It is
 // no part of the product's boundary, which has none of these calls.
+use calls::put_bytes;
 use params::Part;
 use params::lookup;
 use params::lookup_part;
-use tight::put_bytes;
 ghost use mathlib.Core.Path.{_≡_};
-ghost use Rattle.tight.specs.Answers.{textAfter};
+ghost use Rattle.calls.specs.Texts.{textAfter};
 ghost use Rattle.params.specs.Answers.{lookupPart, lookupBytes, lookupCounter, lookupNumber, lookupDetail};
 ghost use Rattle.calls_exports.specs.Places.{sourceOf, startOf};
 

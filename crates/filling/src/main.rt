@@ -6,44 +6,20 @@
 //
 // Of sheet and statement one byte more than each may have is kept, by which fill refuses as for the whole. What a sheet has
 // beyond that is read past, since the statement behind it decides whether 1 or 2 comes before the sheet's 5.
+use calls::le32_at;
+use console::print_answer;
+use console::read_text;
+use console::text_space;
 use libc::STDIN_FILENO;
-use libc::STDOUT_FILENO;
 use params::fill;
-use tokenizer::Answer;
 ghost use mathlib.Core.Path.{_≡_};
-ghost use Prim.Native.Nat.{_<_, _≤_};
+ghost use Prim.Native.Nat.{_≤_};
 ghost use lib.ListN.{length};
 ghost use Rattle.io.specs.Counts.{Counts};
 
-fn print_refusal(answer: Answer) {
-    io::write_all(STDOUT_FILENO, b"refused ");
-    io::print_decimal(STDOUT_FILENO, tokenizer::answer_number(answer));
-    io::write_all(STDOUT_FILENO, b"\n");
-}
-
 fn print_filled(statement: &[u8], sheet: &[u8], output: &mut [u8]) {
     let answer = fill(statement, 0, 0, 0, sheet, output);
-    let Answer::Done(count) = answer else {
-        print_refusal(answer);
-        return;
-    };
-    let end = count as usize;
-    io::write_all(STDOUT_FILENO, &output[..end]);
-}
-
-fn wide(b: u8) -> usize
-    ensures { λ r. ⌜ r < 256 ⌝ }
-{
-    b as usize
-}
-
-// A number of four bytes, the lowest first.
-fn le32_at_start(bytes: &[u8]) -> usize
-    requires { ⌜ 4 ≤ length (now bytes) ⌝ }
-{
-    let low = wide(bytes[0]) + 256 * wide(bytes[1]);
-    let high = wide(bytes[2]) + 256 * wide(bytes[3]);
-    low + 65536 * high
+    print_answer(answer, output);
 }
 
 fn least(a: usize, b: usize) -> usize
@@ -90,17 +66,10 @@ fn read_sheet(kept: &mut [u8]) -> usize
     if n < 4 {
         return n;
     }
-    let len = le32_at_start(kept);
+    let len = le32_at(kept, 0);
     let got = read_up_to(len, kept);
     read_past(len - got);
     got
-}
-
-// One byte more than a sheet or a statement may have.
-fn text_space() -> [u8; 65537]
-    ensures { λ r. ⌜ 65537 ≡ length r ⌝ }
-{
-    [0; 65537]
 }
 
 fn output_space() -> [u8; 131072]
@@ -114,6 +83,6 @@ fn main() {
     let mut statement = text_space();
     let mut output = output_space();
     let sheet_len = read_sheet(&mut sheet);
-    let len = io::read_full(STDIN_FILENO, &mut statement);
+    let len = read_text(&mut statement);
     print_filled(&statement[..len], &sheet[..sheet_len], &mut output);
 }

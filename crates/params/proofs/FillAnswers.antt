@@ -10,14 +10,10 @@ use Rattle.calls.specs.declared.Checked.the-variants.{Accepted, Refused}
 use Rattle.calls.specs.declared.Refusal.{Refusal}
 use Rattle.calls.specs.declared.Refusal.the-variants as R
 use Rattle.calls.specs.declared.Settings.{Settings}
-use Rattle.calls.specs.declared.TextAnswer.{TextAnswer}
-use Rattle.calls.specs.declared.TextAnswer.the-variants.{Written}
 use Rattle.calls.specs.Checks.{checked}
 use Rattle.calls.proofs.Checks.{refused-accepted, accepted-short}
-use Rattle.calls.proofs.TextCalls.{call-written}
 use Rattle.params.specs.Sheet.{isSheet}
-use Rattle.params.specs.Filled.{filled}
-use Rattle.params.specs.Answers.{checkedWith, fillAnswer, fillOutput}
+use Rattle.params.specs.Answers.{checkedWith}
 
 -- ---- what fill and lookup refuse
 
@@ -59,9 +55,3 @@ module _ (s : List ℕ) (dialect joins named : ℕ) (sheet : List ℕ) (settings
 
   pub accepted-sheet : isSheet sheet ≡ true
   accepted-sheet = both .sheet-good
-
--- as a caller of fill has it: what was written lies inside the output
-pub written-inside : (s : List ℕ) (dialect joins named : ℕ) (sheet output after : List ℕ) (r : TextAnswer) (n : ℕ)
-    → r ≡ fillAnswer s dialect joins named sheet (length output) → after ≡ fillOutput s dialect joins named sheet output → r ≡ Written n → n ≤ length after
-written-inside s dialect joins named sheet output after r n e f g =
-    rw f (call-written (λ settings. filled settings s sheet) output (checkedWith s dialect joins named sheet) n (sym e ∙ g))

@@ -1,17 +1,20 @@
 // The boundary for C.
+use calls::TextAnswer;
+use calls::text_detail;
+use calls::text_number;
 use params::fill;
 use tight::tighten;
-use tokenizer::Answer;
-use tokenizer::answer_detail;
-use tokenizer::answer_number;
+use tokenizer::TableAnswer;
+use tokenizer::table_detail;
+use tokenizer::table_number;
 use tokenizer::tokenize;
 ghost use mathlib.Core.Path.{_≡_};
-ghost use Prim.Native.Nat.{min, _≤_};
+ghost use Prim.Native.Nat.{min, _<_};
 ghost use lib.ListN.{length};
 ghost use Rattle.tokenizer.specs.Answers.{tokenizeAnswer, tokenizeRecords};
 ghost use Rattle.tight.specs.Answers.{tightenAnswer, tightenOutput};
 ghost use Rattle.params.specs.Answers.{fillAnswer, fillOutput};
-ghost use Rattle.ventpeeler.specs.Packed.{packed};
+ghost use Rattle.ventpeeler.specs.Packed.{packed, packedTable, packedText};
 
 fn at_most(n: u64, most: u64) -> u64
     ensures { λ r. ⌜ r ≡ min n most ⌝ }
@@ -22,13 +25,24 @@ fn at_most(n: u64, most: u64) -> u64
     n
 }
 
-fn pack(answer: Answer) -> u64
-    ensures { λ r. ⌜ r ≡ packed answer ⌝ }
+fn pack(number: u64, detail: u64) -> u64
+    requires { ⌜ number < 256 ⌝ }
+    ensures { λ r. ⌜ r ≡ packed number detail ⌝ }
 {
-    let number = answer_number(answer);
-    let detail = answer_detail(answer);
     let told = at_most(detail, 72057594037927935);
     number * 72057594037927936 + told
+}
+
+fn pack_table(answer: TableAnswer) -> u64
+    ensures { λ r. ⌜ r ≡ packedTable answer ⌝ }
+{
+    pack(table_number(answer), table_detail(answer))
+}
+
+fn pack_text(answer: TextAnswer) -> u64
+    ensures { λ r. ⌜ r ≡ packedText answer ⌝ }
+{
+    pack(text_number(answer), text_detail(answer))
 }
 
 #[no_mangle]
@@ -39,11 +53,11 @@ pub extern "C" fn ventpeeler_tokenize(
     named: u64,
     records: &mut [u8],
 ) -> u64
-    ensures { λ r. ⌜ r ≡ packed (tokenizeAnswer (now (statement .entry)) dialect joins named (length (now (records .entry)))) ⌝ }
+    ensures { λ r. ⌜ r ≡ packedTable (tokenizeAnswer (now (statement .entry)) dialect joins named (length (now (records .entry)))) ⌝ }
     ensures { λ _. ⌜ now (records .exit) ≡ tokenizeRecords (now (statement .entry)) dialect joins named (now (records .entry)) ⌝ }
 {
     let answer = tokenize(statement, dialect, joins, named, records);
-    pack(answer)
+    pack_table(answer)
 }
 
 #[no_mangle]
@@ -54,11 +68,11 @@ pub extern "C" fn ventpeeler_tighten(
     named: u64,
     output: &mut [u8],
 ) -> u64
-    ensures { λ r. ⌜ r ≡ packed (tightenAnswer (now (statement .entry)) dialect joins named (length (now (output .entry)))) ⌝ }
+    ensures { λ r. ⌜ r ≡ packedText (tightenAnswer (now (statement .entry)) dialect joins named (length (now (output .entry)))) ⌝ }
     ensures { λ _. ⌜ now (output .exit) ≡ tightenOutput (now (statement .entry)) dialect joins named (now (output .entry)) ⌝ }
 {
     let answer = tighten(statement, dialect, joins, named, output);
-    pack(answer)
+    pack_text(answer)
 }
 
 #[no_mangle]
@@ -70,9 +84,9 @@ pub extern "C" fn ventpeeler_fill(
     sheet: &[u8],
     output: &mut [u8],
 ) -> u64
-    ensures { λ r. ⌜ r ≡ packed (fillAnswer (now (statement .entry)) dialect joins named (now (sheet .entry)) (length (now (output .entry)))) ⌝ }
+    ensures { λ r. ⌜ r ≡ packedText (fillAnswer (now (statement .entry)) dialect joins named (now (sheet .entry)) (length (now (output .entry)))) ⌝ }
     ensures { λ _. ⌜ now (output .exit) ≡ fillOutput (now (statement .entry)) dialect joins named (now (sheet .entry)) (now (output .entry)) ⌝ }
 {
     let answer = fill(statement, dialect, joins, named, sheet, output);
-    pack(answer)
+    pack_text(answer)
 }

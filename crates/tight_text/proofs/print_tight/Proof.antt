@@ -1,18 +1,13 @@
-use mathlib.Core.Path.{sym}
-use lib.Seq.{length-take-le}
 use borrow.Author.Needs.{needs}
-use Rattle.tight.proofs.TightenAnswers.{written-inside}
+use Rattle.console.proofs.AnswersInside.{answer-inside}
 use Rattle.tight_text.proofs.print_tight.Statement.{statement}
 use Rattle.tight_text.proofs.print_tight.Tie as tie
 
 tighten-requires : tie.Need-tighten-requires
 tighten-requires c κs = search needs
 
-enum-known-answer : tie.Need-enum-known-answer
-enum-known-answer c = search needs
-
-print-refusal-requires : tie.Need-print-refusal-requires
-print-refusal-requires c κs = search needs
+print-answer-requires : tie.Need-print-answer-requires
+print-answer-requires c κs = search answer-inside
 
 same-length : tie.Need-same-length
 same-length c = search needs
@@ -20,32 +15,5 @@ same-length c = search needs
 returns : tie.Need-returns
 returns c = search needs
 
-slice-reshare-prefix-write-all : tie.Need-slice-reshare-prefix-write-all
-slice-reshare-prefix-write-all c = search written-inside
-
-slice-aggregate-write-all : tie.Need-slice-aggregate-write-all
-slice-aggregate-write-all c = sym (length-take-le _ _ (search written-inside))
-
-write-all-requires : tie.Need-write-all-requires
-write-all-requires c κs = search needs
-
-same-length-2 : tie.Need-same-length-2
-same-length-2 c = search needs
-
-returns-2 : tie.Need-returns-2
-returns-2 c = search needs
-
 pub print-tight-spec : {M : Type 1} → statement M
-print-tight-spec =
-    tie.close
-    (tie.spec
-    tighten-requires
-    enum-known-answer
-    print-refusal-requires
-    same-length
-    returns
-    slice-reshare-prefix-write-all
-    slice-aggregate-write-all
-    write-all-requires
-    same-length-2
-    returns-2)
+print-tight-spec = tie.close (tie.spec tighten-requires print-answer-requires same-length returns)

@@ -1,0 +1,2 @@
+-- What printing an answer asks for.
+pub mod Printed
