@@ -5,6 +5,7 @@
 
 build := target/test
 archive := target/staticlib/libventpeeler.a
+programs := target/bin/listing target/bin/tight_text target/bin/filling
 rust := rustc --edition 2021 -O
 warnings := -Wall -Wextra -Wpedantic -Werror
 c := cc -std=c99 -O2 $(warnings) -Iinclude
@@ -42,6 +43,12 @@ tables: $(build)/tables
 target/staticlib/lib%.a: crates.txt $(shell find crates -type f)
 	@mkdir -p target
 	@rt staticlib $* > target/staticlib.log 2>&1 || { cat target/staticlib.log; exit 1; }
+	@touch $@
+
+# a program is proved and linked anew where any file of a crate is younger
+target/bin/%: crates.txt $(shell find crates -type f)
+	@mkdir -p target
+	@rt check $* > target/check.log 2>&1 || { cat target/check.log; exit 1; }
 	@touch $@
 
 $(build)/bench_unicode: bench/unicode.rs bench/timing.rs tests/unicode/unicode.rs target/staticlib/libunicode_exports.a
@@ -96,6 +103,16 @@ $(build)/stack_%: tests/stack/%.rs $(wildcard tests/stack/*) tests/random/texts.
 $(build)/replay_lookup: tests/lookup/replay.rs tests/replaying.rs target/staticlib/libparams_exports.a
 	@mkdir -p $(build)
 	$(rust) -o $@ $< -L target/staticlib -l static=params_exports
+
+$(build)/programs_agreement: tests/programs/agreement.rs $(wildcard tests/random/*.rs) tests/calls.rs $(archive) | $(programs)
+	@mkdir -p $(build)
+	$(rust) -o $@ $< -L target/staticlib -l static=ventpeeler
+
+# src/params.rs of the Rust is the file that VENTPEELER_PARAMS_RS names, which may be another each time; tests/params/run finds it
+.PHONY: $(build)/params_get
+$(build)/params_get: $(wildcard tests/params/*.rs tests/random/*.rs) tests/calls.rs $(archive) target/staticlib/libparams_exports.a
+	@mkdir -p $(build)
+	$(rust) -o $@ tests/params/get.rs -L target/staticlib -l static=ventpeeler -l static=params_exports
 
 # unicode_categories is older than its compiler, which warns of that
 $(build)/libunicode_categories.rlib: $(categories)
