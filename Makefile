@@ -1,10 +1,12 @@
-# make          tries a program in seconds, proves the crates, builds the archive for C and the example, and runs that on a sample
+# make          tries a program in seconds, proves the crates, runs the program, builds the archive for C and the example, and runs
+#               that on a sample
 # make test     runs all tests; the last line counts them
 # make bench    prints speeds beside a plain scanner's and Rust's
 # make tables   prints the character tables anew (needs rustc and Debian's librust-unicode-categories-dev)
 
 build := target/test
 archive := target/staticlib/libventpeeler.a
+crate_files := crates.txt $(shell find crates -type f)
 programs := target/bin/listing target/bin/tight_text target/bin/filling
 rust := rustc --edition 2021 -O
 warnings := -Wall -Wextra -Wpedantic -Werror
@@ -17,15 +19,15 @@ categories := /usr/share/cargo/registry/unicode_categories-0.1.1/src/lib.rs
 # what is tried first is not proved yet
 all:
 	rt try filling
-	@printf '\nthe search `? $$2 ? ?2`, filled from a sheet with 7 and 8: %s\n\n' "$$(cat crates/filling/stdout)"
 	rt check
+	@printf '\nthe search `? $$2 ? ?2`, filled by target/bin/filling from a sheet with 7 and 8: %s\n' \
+		"$$(target/bin/filling < crates/filling/stdin)"
 	@$(MAKE) --silent $(build)/search
 	@printf '\nsamples/slab.sql, with values for its placeholders:\n\n'
 	@$(build)/search samples/slab.sql "'L2'" 35 "'2026-11-16'" "'2026-11-17'" 20
 
 test:
-	tools/setup
-	tests/run
+	@tests/run
 
 bench: $(build)/bench_unicode $(build)/bench_reading $(build)/bench_fill
 	$(build)/bench_unicode
@@ -40,13 +42,13 @@ tables: $(build)/tables
 	rt fmt
 
 # an archive is written anew where any file of a crate is younger
-target/staticlib/lib%.a: crates.txt $(shell find crates -type f)
+target/staticlib/lib%.a: $(crate_files)
 	@mkdir -p target
 	@rt staticlib $* > target/staticlib.log 2>&1 || { cat target/staticlib.log; exit 1; }
 	@touch $@
 
 # a program is proved and linked anew where any file of a crate is younger
-target/bin/%: crates.txt $(shell find crates -type f)
+target/bin/%: $(crate_files)
 	@mkdir -p target
 	@rt check $* > target/check.log 2>&1 || { cat target/check.log; exit 1; }
 	@touch $@
