@@ -1,5 +1,5 @@
-# make          tries a program in seconds, proves the crates, runs the program, builds the archive for C and the example, and runs
-#               that on a sample
+# make          tries a program in seconds, proves the crates, runs the program, builds the archive for C and the example, and
+#               runs that on a sample
 # make test     runs all tests; the last line counts them
 # make bench    prints speeds beside a plain scanner's and Rust's
 # make tables   prints the character tables anew (needs rustc and Debian's librust-unicode-categories-dev)
@@ -110,7 +110,7 @@ $(build)/programs_agreement: tests/programs/agreement.rs $(wildcard tests/random
 	@mkdir -p $(build)
 	$(rust) -o $@ $< -L target/staticlib -l static=ventpeeler
 
-# src/params.rs of the Rust is the file that VENTPEELER_PARAMS_RS names, which may be another each time; tests/params/run finds it
+# the Rust's src/params.rs is the file that VENTPEELER_PARAMS_RS names, which may be another each time; tests/params/run finds it
 .PHONY: $(build)/params_get
 $(build)/params_get: $(wildcard tests/params/*.rs tests/random/*.rs) tests/calls.rs $(archive) target/staticlib/libparams_exports.a
 	@mkdir -p $(build)

@@ -123,7 +123,8 @@ fn agrees(case: &Case, key_kind: Option<u32>, sheet_kind: Option<u8>, get: Get) 
     if sheet_kind.is_some_and(|kind| case.sheet.first() != Some(&kind)) {
         return Aside;
     }
-    let (Some(params), Some(tokens)) = (query_params(&case.sheet), lists::tokens(&case.text, case.settings)) else { return Aside };
+    let Some(params) = query_params(&case.sheet) else { return Aside };
+    let Some(tokens) = lists::tokens(&case.text, case.settings) else { return Aside };
     let text = std::str::from_utf8(&case.text).unwrap();
     let mut index = case.other.iter().rev().fold(0, |n, byte| n << 8 | *byte as usize);
     let mut verdict = Aside;
@@ -167,7 +168,7 @@ fn counter(chance: &mut Chance) -> Vec<u8> {
     counter.to_le_bytes().to_vec()
 }
 
-// Sheets of 65,536 bytes: many values, one long one, one with a long name.
+// Sheets of 65,535 or 65,536 bytes: many values, one long one, one with a long name.
 fn limits() -> Vec<Case> {
     let case = |text: String, kind: u8, entries: Vec<(Vec<u8>, Vec<u8>)>| {
         let sheet = Sheet { kind, entries }.bytes();
