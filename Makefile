@@ -1,4 +1,5 @@
-# make          tries a program in seconds, proves the crates, builds the archive for C and the example, and runs that on a sample
+# make          tries a program in seconds, proves the crates, runs the program, builds the archive for C and the example, and
+#               runs that on a sample
 # make test     runs all tests; the last line counts them
 # make bench    prints speeds beside a plain scanner's and Rust's
 # make tables   prints the tables of characters and of phrases anew (needs rustc, Debian's librust-unicode-categories-dev, python3)
@@ -6,6 +7,8 @@
 
 build := target/test
 archive := target/staticlib/libventpeeler.a
+crate_files := crates.txt $(shell find crates -type f)
+programs := target/bin/listing target/bin/tight_text target/bin/filling
 rust := rustc --edition 2021 -O
 warnings := -Wall -Wextra -Wpedantic -Werror
 c := cc -std=c99 -O2 $(warnings) -Iinclude
@@ -17,15 +20,15 @@ categories := /usr/share/cargo/registry/unicode_categories-0.1.1/src/lib.rs
 # what is tried first is not proved yet
 all:
 	rt try filling
-	@printf '\nthe search `? $$2 ? ?2`, filled from a sheet with 7 and 8: %s\n\n' "$$(cat crates/filling/stdout)"
 	rt check
+	@printf '\nthe search `? $$2 ? ?2`, filled by target/bin/filling from a sheet with 7 and 8: %s\n' \
+		"$$(target/bin/filling < crates/filling/stdin)"
 	@$(MAKE) --silent $(build)/search
 	@printf '\nsamples/slab.sql, with values for its placeholders:\n\n'
 	@$(build)/search samples/slab.sql "'L2'" 35 "'2026-11-16'" "'2026-11-17'" 20
 
 test:
-	tools/setup
-	tests/run
+	@tests/run
 
 bench: $(build)/bench_unicode $(build)/bench_reading $(build)/bench_fill
 	$(build)/bench_unicode
@@ -50,9 +53,15 @@ target/vectors/%: tools/%_vectors.py $(wildcard tools/*.py) crates/sweep/stdout
 	mv $@.part $@
 
 # an archive is written anew where any file of a crate is younger
-target/staticlib/lib%.a: crates.txt $(shell find crates -type f)
+target/staticlib/lib%.a: $(crate_files)
 	@mkdir -p target
 	@rt staticlib $* > target/staticlib.log 2>&1 || { cat target/staticlib.log; exit 1; }
+	@touch $@
+
+# a program is proved and linked anew where any file of a crate is younger
+target/bin/%: $(crate_files)
+	@mkdir -p target
+	@rt check $* > target/check.log 2>&1 || { cat target/check.log; exit 1; }
 	@touch $@
 
 $(build)/bench_unicode: bench/unicode.rs bench/timing.rs tests/unicode/unicode.rs target/staticlib/libunicode_exports.a
@@ -109,6 +118,16 @@ $(build)/stack_%: tests/stack/%.rs $(wildcard tests/stack/*) tests/calls.rs test
 $(build)/replay_lookup: tests/lookup/replay.rs $(replay_parts) tests/rattle_calls.rs target/staticlib/libcalls_exports.a
 	@mkdir -p $(build)
 	$(rust) -o $@ $< -L target/staticlib -l static=calls_exports
+
+$(build)/programs_agreement: tests/programs/agreement.rs $(wildcard tests/random/*.rs) tests/calls.rs $(archive) | $(programs)
+	@mkdir -p $(build)
+	$(rust) -o $@ $< -L target/staticlib -l static=ventpeeler
+
+# the Rust's src/params.rs is the file that VENTPEELER_PARAMS_RS names, which may be another each time; tests/params/run finds it
+.PHONY: $(build)/params_get
+$(build)/params_get: $(wildcard tests/params/*.rs tests/random/*.rs) tests/calls.rs $(archive) target/staticlib/libparams_exports.a
+	@mkdir -p $(build)
+	$(rust) -o $@ tests/params/get.rs -L target/staticlib -l static=ventpeeler -l static=params_exports
 
 # unicode_categories is older than its compiler, which warns of that
 $(build)/libunicode_categories.rlib: $(categories)

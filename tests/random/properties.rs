@@ -78,43 +78,42 @@ fn runs(length: usize) -> impl Iterator<Item = usize> {
     halves.chain([4, 3, 2, 1].into_iter().filter(move |run| *run <= length))
 }
 
-// The cases with a run of bytes left out of one part; then those with a setting of 0.
-fn smaller(case: &Case) -> Vec<Case> {
-    let mut cases = Vec::new();
-    for which in 0..3 {
-        let length = part(&mut case.clone(), which).len();
-        for run in runs(length) {
-            for at in (0..=length - run).step_by((run / 4).max(1)) {
-                let mut less = case.clone();
-                part(&mut less, which).drain(at..at + run);
-                cases.push(less);
-            }
-        }
-    }
-    for i in 0..3 {
+// The cases with a run of bytes left out of one part; then those with a setting of 0. They are made one by one, since a long
+// text has as many as it has bytes.
+fn smaller(case: &Case) -> impl Iterator<Item = Case> + '_ {
+    let without = move |which: usize, at: usize, run: usize| {
+        let mut less = case.clone();
+        part(&mut less, which).drain(at..at + run);
+        less
+    };
+    let zeroed = move |i: usize| {
         let mut less = case.clone();
         less.settings[i] = 0;
-        cases.push(less);
-    }
-    cases
+        less
+    };
+    let lengths = [case.text.len(), case.other.len(), case.sheet.len()];
+    let parts = lengths.into_iter().enumerate().flat_map(move |(which, length)| {
+        let places = move |run: usize| (0..=length - run).step_by((run / 4).max(1)).map(move |at| (at, run));
+        runs(length).flat_map(places).map(move |(at, run)| without(which, at, run))
+    });
+    parts.chain((0..3).map(zeroed))
 }
 
 fn shrunk(mut case: Case, mut why: String, test: fn(&Case) -> Verdict) -> (Case, String) {
     let mut tries = 0;
-    'again: loop {
-        for less in smaller(&case) {
+    loop {
+        let tried = |_: &Case| {
             tries += 1;
-            if tries > TRIES {
-                return (case, why);
-            }
-            if size(&less) < size(&case) {
-                if let Fails(reason) = test(&less) {
-                    (case, why) = (less, reason);
-                    continue 'again;
-                }
-            }
+            tries <= TRIES
+        };
+        let found = smaller(&case).filter(|less| size(less) < size(&case)).take_while(tried).find_map(|less| match test(&less) {
+            Fails(reason) => Some((less, reason)),
+            _ => None,
+        });
+        match found {
+            Some(less) => (case, why) = less,
+            None => return (case, why),
         }
-        return (case, why);
     }
 }
 
@@ -141,7 +140,8 @@ impl Property {
     fn tell_smallest(&self) {
         if let Some((case, why)) = &self.smallest {
             println!("             settings {:?}, text \"{}\"", case.settings, shown(&case.text));
-            println!("             other text \"{}\", sheet {:02x?}: {}", shown(&case.other), case.sheet, why);
+            let sheet = if case.sheet.len() > 400 { shown(&case.sheet) } else { format!("{:02x?}", case.sheet) };
+            println!("             other text \"{}\", sheet {}: {}", shown(&case.other), sheet, why);
         }
     }
 
