@@ -10,5 +10,6 @@ pub mod ClosingQuote
 pub mod Blanks
 pub mod Digits
 pub mod PlaceholderLaws
+pub mod NationalKey
 pub mod PieceSizes
 pub mod PieceBoundaries

@@ -15,6 +15,7 @@ use Rattle.unicode.specs.Character.{characterLength, codePoint}
 use Rattle.unicode.specs.Classes.{isWhitespace, isWordCharacter, isPlaceholderNameCharacter}
 use Rattle.unicode.specs.Runs.{run}
 use Rattle.unicode.specs.Utf8.{wellFormed}
+use Rattle.unicode.proofs.Within.{within-high}
 use Rattle.unicode.proofs.WellFormedSteps.{well-formed-step}
 use Rattle.recognisers.specs.declared.Dialect.{Dialect}
 use Rattle.recognisers.specs.declared.Dialect.the-variants.{Generic, PostgreSql, SQLServer}
@@ -136,8 +137,7 @@ count-cut test a (b ∷ s) (suc n) h w = go (test b) refl (λ k v. count-cut tes
     go false e rest h = absurd (not-suc-le-zero h)
 
 digit-plain : Plain isDigit
-unfolding within
-digit-plain b e = let h = and-eq-true-iff (leb 0x30 b) (leb b 0x39) .0 e .1 in omega (arith, leb-true b 0x39 h)
+digit-plain b e = omega (arith, within-high 0x30 0x39 b e)
 
 contains-plain : (among : List ℕ) → allAscii among ≡ true → Plain (contains among)
 unfolding contains

@@ -25,6 +25,7 @@ pub fn is_among(bytes: &[u8], b: u8) -> bool
     false
 }
 
+// The word stands at the start, as typed.
 pub fn is_spelled(rest: &[u8], word: &[u8]) -> bool
     ensures { λ r. ⌜ r ≡ isSpelled typed (now (word .entry)) (now (rest .entry)) ⌝ }
 {
@@ -77,7 +78,7 @@ fn capital_is(b: u8, w: u8) -> bool
     capital_of(b) == w
 }
 
-// The word is in capitals.
+// The word, which is in capitals, stands at the start in either case.
 pub fn is_spelled_caseless(rest: &[u8], word: &[u8]) -> bool
     ensures { λ r. ⌜ r ≡ isSpelled capital (now (word .entry)) (now (rest .entry)) ⌝ }
 {

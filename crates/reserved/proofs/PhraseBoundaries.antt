@@ -26,6 +26,7 @@ use Rattle.reserved.specs.NoIndent.{noIndentPhrases}
 use Rattle.reserved.specs.Plain.{plainTwoPhrases, plainOnePhrases, plainA, plainB, plainC, plainD, plainE, plainF, plainG, plainH, plainI, plainK, plainL, plainM, plainN, plainO, plainP, plainQ, plainR, plainS, plainT, plainU, plainV, plainW, plainY}
 use Rattle.reserved.specs.Reserved.{topLevelToken, newlineToken, getTopLevelReservedToken, getNewlineAfterReservedToken, getNewlineReservedToken, getJoinToken, getTopLevelReservedTokenNoIndent, getPlainReservedToken, mayBeReserved, getReservedWordToken}
 use Rattle.recognisers.proofs.PieceBoundaries.{Leaves, Cuts, or-leaves, more-leaves, fails-leaves, one-cuts, capital-keeps, allAscii, done-cuts, end-of-word-cuts, blanks-cuts, Bounded, alt-bounded, token-bounded}
+use Rattle.reserved.proofs.PhraseWalk.{wordsOf}
 
 walk-cuts : (words : List ℕ) → allAscii words ≡ true → (then : Part) → Cuts then → Cuts (walk words then)
 unfolding walk
@@ -46,13 +47,9 @@ optional-cuts words a then h s w = go (walk words done s) (walk-cuts words a don
     go (Bytes n) l = more-leaves n s (then (drop n s)) (h (drop n s) (l .left))
     go Fails l = h s w
 
-abbrev wordsOf : Phrase → List ℕ
-wordsOf (phrase words) = words
-wordsOf (phraseIfExists words) = words
-
-abbrev allPlain : List Phrase → Bool
-allPlain [] = true
-allPlain (p ∷ phrases) = allAscii (wordsOf p) && allPlain phrases
+abbrev allWordsAscii : List Phrase → Bool
+allWordsAscii [] = true
+allWordsAscii (p ∷ phrases) = allAscii (wordsOf p) && allWordsAscii phrases
 
 phrase-cuts : (p : Phrase) → allAscii (wordsOf p) ≡ true → Cuts (phraseEnd p)
 unfolding phraseEnd
@@ -60,40 +57,40 @@ phrase-cuts (phrase words) a s w = walk-cuts words a endOfWord end-of-word-cuts 
 phrase-cuts (phraseIfExists words) a s w =
     walk-cuts words a (optional (bytes " IF EXISTS") endOfWord) (optional-cuts (bytes " IF EXISTS") refl endOfWord end-of-word-cuts) s w
 
-first-cuts : (phrases : List Phrase) → allPlain phrases ≡ true → Cuts (firstPhrase phrases)
+first-cuts : (phrases : List Phrase) → allWordsAscii phrases ≡ true → Cuts (firstPhrase phrases)
 unfolding firstPhrase
 first-cuts [] a s w = fails-leaves s
 first-cuts (p ∷ phrases) a s w =
-    let b = and-eq-true-iff (allAscii (wordsOf p)) (allPlain phrases) .0 a in
+    let b = and-eq-true-iff (allAscii (wordsOf p)) (allWordsAscii phrases) .0 a in
     or-leaves s (phraseEnd p s) (firstPhrase phrases s) (phrase-cuts p (b .0) s w) (first-cuts phrases (b .1) s w)
 
 -- one test for each group, which the checker computes over its table
 
-top-plain : allPlain topLevelPhrases ≡ true
+top-plain : allWordsAscii topLevelPhrases ≡ true
 unfolding topLevelPhrases creatable alterableOrDroppable eachDropped each
 top-plain = refl
 
-after-plain : allPlain newlineAfterPhrases ≡ true
+after-plain : allWordsAscii newlineAfterPhrases ≡ true
 unfolding newlineAfterPhrases
 after-plain = refl
 
-newline-plain : allPlain newlinePhrases ≡ true
+newline-plain : allWordsAscii newlinePhrases ≡ true
 unfolding newlinePhrases
 newline-plain = refl
 
-join-plain : allPlain joinPhrases ≡ true
+join-plain : allWordsAscii joinPhrases ≡ true
 unfolding joinPhrases
 join-plain = refl
 
-no-indent-plain : allPlain noIndentPhrases ≡ true
+no-indent-plain : allWordsAscii noIndentPhrases ≡ true
 unfolding noIndentPhrases
 no-indent-plain = refl
 
-two-plain : allPlain plainTwoPhrases ≡ true
+two-plain : allWordsAscii plainTwoPhrases ≡ true
 unfolding plainTwoPhrases
 two-plain = refl
 
-one-plain : allPlain plainOnePhrases ≡ true
+one-plain : allWordsAscii plainOnePhrases ≡ true
 unfolding plainOnePhrases plainA plainB plainC plainD plainE plainF plainG plainH plainI plainK plainL plainM plainN plainO plainP plainQ plainR plainS plainT plainU plainV plainW plainY
 one-plain = refl
 

@@ -29,16 +29,12 @@ use Rattle.reserved.specs.Join.{joinPhrases}
 use Rattle.reserved.specs.NoIndent.{noIndentPhrases}
 use Rattle.reserved.specs.Plain.{plainTwoPhrases, plainA, plainB, plainC, plainD, plainE, plainF, plainG, plainH, plainI, plainK, plainL, plainM, plainN, plainO, plainP, plainQ, plainR, plainS, plainT, plainU, plainV, plainW, plainY, plainOnePhrases}
 use Rattle.reserved.specs.Reserved.{aliasLength, topLevelToken, newlineToken, getTopLevelReservedToken, getNewlineAfterReservedToken, getNewlineReservedToken, getJoinToken, getTopLevelReservedTokenNoIndent, getPlainReservedToken, mayBeReserved, getReservedWordToken}
-use Rattle.reserved.proofs.PhraseWalk.{walk-inside, exists-inside}
+use Rattle.reserved.proofs.PhraseWalk.{wordsOf, walk-inside, exists-inside}
 
 -- a phrase begins with a byte that is no space
 abbrev begins : List ℕ → Bool
 begins [] = false
 begins (p ∷ words) = not (eqb p (byte " "))
-
-abbrev wordsOf : Phrase → List ℕ
-wordsOf (phrase words) = words
-wordsOf (phraseIfExists words) = words
 
 abbrev allBegin : List Phrase → Bool
 allBegin [] = true

@@ -25,8 +25,12 @@ use Rattle.unicode.proofs.Rests.{part-end}
 use Rattle.recognisers.proofs.Spelling.{more-zero, more-more}
 use Rattle.recognisers.proofs.TakenInside.{Inside, done-inside, one-inside, end-of-word-inside, fits-more}
 use Rattle.recognisers.proofs.Blanks.{blanks-none, blanks-then, blanks-inside}
-use Rattle.reserved.specs.Phrases.{walk, after, optional}
+use Rattle.reserved.specs.Phrases.{Phrase, phrase, phraseIfExists, walk, after, optional}
 use Rattle.reserved.specs.Entries.{ifExists, ending, entryEnd}
+
+abbrev pub wordsOf : Phrase → List ℕ
+wordsOf (phrase words) = words
+wordsOf (phraseIfExists words) = words
 
 -- what a part takes, and then another: no way back
 abbrev pub andThen : Taken → Part → Part

@@ -8,11 +8,11 @@ use mathlib.Core.List.{List, [], _∷_}
 use mathlib.Core.Bool.{Bool, true, false, cond, false≢true}
 use lib.ListN.{length, drop, getD, drop-of-length-le}
 use lib.Seq.{drop-cons}
-use borrow.Author.Tests.{le-leb, lt-leb, leb-true, lt-ltb}
-use Rattle.unicode.specs.Ranges.{within}
+use borrow.Author.Tests.{le-leb, leb-true, lt-ltb}
 use Rattle.unicode.specs.Character.{isContinuation, continuations, continued, characterLength, codePoint}
 use Rattle.unicode.specs.Runs.{run}
 use Rattle.unicode.specs.Utf8.{sequenceLength, wellFormedFrom, wellFormed}
+use Rattle.unicode.proofs.Within.{below-not}
 use Rattle.unicode.proofs.WellFormedSteps.{sequence-whole, well-formed-step}
 use Rattle.unicode.proofs.FirstIllFormed.{pass, step, stop, sequence-inside}
 
@@ -49,8 +49,8 @@ cut-before s n w h e = cut 0 s n (leb-true (length s) (wellFormedFrom 0 s) w) re
 
 -- an ASCII byte is no continuation byte, and a character of its own
 ascii-starts : (b : ℕ) → b < 0x80 → isContinuation b ≡ false
-unfolding isContinuation within
-ascii-starts b h = rw (lt-leb 0x80 b h)
+unfolding isContinuation
+ascii-starts b h = below-not 0x80 0xBF b h
 
 pub ascii-next : (b : ℕ) (s : List ℕ) → b < 0x80 → wellFormed (b ∷ s) ≡ true → wellFormed s ≡ true
 unfolding characterLength continuations continued

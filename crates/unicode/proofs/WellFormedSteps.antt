@@ -19,6 +19,7 @@ use Rattle.unicode.specs.declared.IllFormed.the-variants.{At, Nowhere}
 use Rattle.unicode.specs.Ranges.{within}
 use Rattle.unicode.specs.Utf8.{table-3-7, fitsRow, sequenceIn, sequenceLength, wellFormedFrom, firstIllFormed, wellFormed}
 use Rattle.unicode.specs.Character.{isContinuation, continuations, continued, characterLength}
+use Rattle.unicode.proofs.Within.{within-low, within-high, within-is}
 use Rattle.unicode.proofs.SequenceRows.{Rows}
 use Rattle.unicode.proofs.FirstIllFormed.{sequence-inside, step, stop}
 
@@ -50,17 +51,16 @@ continuing [] = true
 continuing (range ∷ row) = (leb 0x80 (range .0) && leb (range .1) 0xBF) && continuing row
 
 starts-continued : (row : List (ℕ × ℕ)) (s : List ℕ) → continuing row ≡ true → fitsRow row s ≡ true → continued (length row) s ≡ length row
-unfolding fitsRow continued within isContinuation
+unfolding fitsRow continued isContinuation
 starts-continued [] s c e = refl
 starts-continued (range ∷ row) [] c e = absurd (false≢true e)
 starts-continued (range ∷ row) (b ∷ s) c e =
     let c₂ = and-eq-true-iff (leb 0x80 (range .0) && leb (range .1) 0xBF) (continuing row) .0 c in
     let c₃ = and-eq-true-iff (leb 0x80 (range .0)) (leb (range .1) 0xBF) .0 (c₂ .0) in
-    let e₂ = and-eq-true-iff (leb (range .0) b && leb b (range .1)) (fitsRow row s) .0 e in
-    let e₃ = and-eq-true-iff (leb (range .0) b) (leb b (range .1)) .0 (e₂ .0) in
-    let low : 0x80 ≤ b = le-trans (leb-true 0x80 (range .0) (c₃ .0)) (leb-true (range .0) b (e₃ .0)) in
-    let high : b ≤ 0xBF = le-trans (leb-true b (range .1) (e₃ .1)) (leb-true (range .1) 0xBF (c₃ .1)) in
-    rw (le-leb 0x80 b low, le-leb b 0xBF high) (ap suc (starts-continued row s (c₂ .1) (e₂ .1)))
+    let e₂ = and-eq-true-iff (within (range .0) (range .1) b) (fitsRow row s) .0 e in
+    let low : 0x80 ≤ b = le-trans (leb-true 0x80 (range .0) (c₃ .0)) (within-low (range .0) (range .1) b (e₂ .0)) in
+    let high : b ≤ 0xBF = le-trans (within-high (range .0) (range .1) b (e₂ .0)) (leb-true (range .1) 0xBF (c₃ .1)) in
+    rw (within-is 0x80 0xBF b low high) (ap suc (starts-continued row s (c₂ .1) (e₂ .1)))
 
 -- a row's first bytes call for as many continuation bytes as the row has
 abbrev pub called : List (ℕ × ℕ) → Bool
@@ -78,7 +78,7 @@ pub record Whole (b : ℕ) (s : List ℕ) (n : ℕ) : Type 0 where
   pub follow : continued n s ≡ n
 
 row-whole : (row : List (ℕ × ℕ)) (b : ℕ) (s : List ℕ) (n : ℕ) → called row ≡ true → fitsRow row (b ∷ s) ≡ true → length row ≡ suc n → Whole b s n
-unfolding fitsRow within
+unfolding fitsRow
 row-whole [] b s n c e l = absurd (false≢true c)
 row-whole (range ∷ row) b s n c e l =
     let m : length row ≡ n = omega arith in
@@ -86,10 +86,9 @@ row-whole (range ∷ row) b s n c e l =
     let c₃ = and-eq-true-iff (eqb (continuations (range .0)) (length row)) (eqb (continuations (range .1)) (length row)) .0 (c₂ .0) in
     let low = eqb-true (continuations (range .0)) (length row) (c₃ .0) in
     let high = eqb-true (continuations (range .1)) (length row) (c₃ .1) in
-    let e₂ = and-eq-true-iff (leb (range .0) b && leb b (range .1)) (fitsRow row s) .0 e in
-    let e₃ = and-eq-true-iff (leb (range .0) b) (leb b (range .1)) .0 (e₂ .0) in
-    let from = continuations-grow (range .0) b (leb-true (range .0) b (e₃ .0)) in
-    let to = continuations-grow b (range .1) (leb-true b (range .1) (e₃ .1)) in
+    let e₂ = and-eq-true-iff (within (range .0) (range .1) b) (fitsRow row s) .0 e in
+    let from = continuations-grow (range .0) b (within-low (range .0) (range .1) b (e₂ .0)) in
+    let to = continuations-grow b (range .1) (within-high (range .0) (range .1) b (e₂ .0)) in
     record { calls = omega arith; follow = rw (← m) (starts-continued row s (c₂ .1) (e₂ .1)) }
 
 rows-whole : (rows : Rows) (b : ℕ) (s : List ℕ) (n : ℕ) → allCalled rows ≡ true → sequenceIn rows (b ∷ s) ≡ suc n → Whole b s n
@@ -120,13 +119,13 @@ sequence-character (b ∷ s) n e = let w = sequence-whole b s n e in ap suc (rw 
 -- ---- ASCII
 
 continued-high : (n : ℕ) (s : List ℕ) (k : ℕ) → k < continued n s → 0x80 ≤ getD s k 0
-unfolding continued isContinuation within
+unfolding continued isContinuation
 continued-high zero s k h = absurd (not-suc-le-zero h)
 continued-high (suc n) [] k h = absurd (not-suc-le-zero h)
 continued-high (suc n) (b ∷ s) k h = go (isContinuation b) refl k (λ j. continued-high n s j) h
   where
     high : isContinuation b ≡ true → 0x80 ≤ b
-    high e = leb-true 0x80 b (and-eq-true-iff (leb 0x80 b) (leb b 0xBF) .0 e .0)
+    high e = within-low 0x80 0xBF b e
 
     go : (t : Bool) → isContinuation b ≡ t → (k : ℕ) → ((j : ℕ) → j < continued n s → 0x80 ≤ getD s j 0) → k < cond t (suc (continued n s)) 0 → 0x80 ≤ getD (b ∷ s) k 0
     go true e zero f h = high e
