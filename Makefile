@@ -125,9 +125,9 @@ $(build)/programs_agreement: tests/programs/agreement.rs $(wildcard tests/random
 
 # the Rust's src/params.rs is the file that VENTPEELER_PARAMS_RS names, which may be another each time; tests/params/run finds it
 .PHONY: $(build)/params_get
-$(build)/params_get: $(wildcard tests/params/*.rs tests/random/*.rs) tests/calls.rs $(archive) target/staticlib/libparams_exports.a
+$(build)/params_get: $(wildcard tests/params/*.rs tests/random/*.rs) tests/calls.rs tests/rattle_calls.rs $(archive) target/staticlib/libcalls_exports.a
 	@mkdir -p $(build)
-	$(rust) -o $@ tests/params/get.rs -L target/staticlib -l static=ventpeeler -l static=params_exports
+	$(rust) -o $@ tests/params/get.rs -L target/staticlib -l static=ventpeeler -l static=calls_exports
 
 # unicode_categories is older than its compiler, which warns of that
 $(build)/libunicode_categories.rlib: $(categories)

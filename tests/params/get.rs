@@ -8,6 +8,8 @@ mod lists;
 mod lookup;
 #[path = "../random/properties.rs"]
 mod properties;
+#[path = "../rattle_calls.rs"]
+mod rattle_calls;
 #[path = "../random/sheets.rs"]
 mod sheets;
 #[path = "../random/texts.rs"]
