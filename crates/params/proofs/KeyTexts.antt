@@ -17,6 +17,7 @@ use Rattle.recognisers.specs.declared.Key.the-variants.{None, Named, Escaped, Z
 use Rattle.recognisers.specs.Text.{byte}
 use Rattle.recognisers.specs.Taking.{startsWith}
 use Rattle.recognisers.specs.Same.{same}
+use Rattle.recognisers.proofs.ByteLoops.{stands, stands-not}
 use Rattle.tokenizer.specs.KeyText.{unescaped, keyText}
 use Rattle.params.specs.Keys.{hasName}
 use Rattle.params.specs.Inner.Inside.{keyEnd}
@@ -25,26 +26,17 @@ use Rattle.params.specs.Inner.Inside.{keyEnd}
 pub at-first : (s : List ℕ) (i : ℕ) → i < length s → drop i s ≡ getD s i 0 ∷ drop (i + 1) s
 at-first s i h = rw (add-one i) (drop-cons s i 0 h)
 
--- ---- one byte
-
-module _ (b : ℕ) (s : List ℕ) (i : ℕ) where
-  pub starts-here : i < length s → eqb (getD s i 0) b ≡ startsWith b (drop i s)
-  unfolding startsWith
-  starts-here h = rw (at-first s i h)
-
-  pub starts-nowhere : length s ≤ i → false ≡ startsWith b (drop i s)
-  unfolding startsWith
-  starts-nowhere h = rw (drop-of-length-le s h)
+-- ---- a backslash before the quote
 
 module _ (text : List ℕ) (i quote : ℕ) where
   pub no-backslash : (getD text i 0 ≡ 92 → ⊥) → false ≡ (eqb (getD text i 0) (byte "\\") && startsWith quote (drop (i + 1) text))
   no-backslash e = rw (ne-eqb _ _ e)
 
   pub backslash-then : getD text i 0 ≡ 92 → i + 1 < length text → eqb (getD text (i + 1) 0) quote ≡ (eqb (getD text i 0) (byte "\\") && startsWith quote (drop (i + 1) text))
-  backslash-then e h = rw e (starts-here quote text (i + 1) h)
+  backslash-then e h = rw e (stands text (i + 1) quote h)
 
   pub backslash-last : getD text i 0 ≡ 92 → length text ≤ i + 1 → false ≡ (eqb (getD text i 0) (byte "\\") && startsWith quote (drop (i + 1) text))
-  backslash-last e h = rw e (starts-nowhere quote text (i + 1) h)
+  backslash-last e h = rw e (stands-not text (i + 1) quote h)
 
 -- ---- the text with escapes undone, from a byte on
 
@@ -111,7 +103,7 @@ module _ (name text : List ℕ) (quote : ℕ) where
         below k = go (leb (length name) j) refl
           where
             go : (t : Bool) → leb (length name) j ≡ t → j < length name
-            go true l = absurd (false≢true (starts-nowhere (getD text i 0) name j (leb-true _ _ l) ∙ sym g ∙ k))
+            go true l = absurd (false≢true (stands-not name j (getD text i 0) (leb-true _ _ l) ∙ sym g ∙ k))
             go false l = leb-false _ _ l
 
         pub compare-fits : d ≡ true → length name < 2 ^ 64 → Fits w64 (j + 1)
@@ -120,7 +112,7 @@ module _ (name text : List ℕ) (quote : ℕ) where
         pub compare-more : d ≡ true → Compared (i + 1) (j + 1)
         unfolding same
         compare-more k =
-            let m : eqb (getD name j 0) (getD text i 0) ≡ true = starts-here (getD text i 0) name j (below k) ∙ sym g ∙ k in
+            let m : eqb (getD name j 0) (getD text i 0) ≡ true = stands name j (getD text i 0) (below k) ∙ sym g ∙ k in
             record {
               inside = omega arith;
               name-inside = omega (arith, below k);
@@ -134,7 +126,7 @@ module _ (name text : List ℕ) (quote : ℕ) where
             go : (t : Bool) → leb (length name) j ≡ t → same (drop j name) (getD text i 0 ∷ unescaped quote (drop (i + 1) text)) ≡ false
             go true l = rw (drop-of-length-le name (leb-true _ _ l))
             go false l =
-                let m : eqb (getD name j 0) (getD text i 0) ≡ false = starts-here (getD text i 0) name j (leb-false _ _ l) ∙ sym g ∙ k in
+                let m : eqb (getD name j 0) (getD text i 0) ≡ false = stands name j (getD text i 0) (leb-false _ _ l) ∙ sym g ∙ k in
                 rw (at-first name j (leb-false _ _ l), m)
 
     pub compare-end : length text ≤ i → leb (length name) j ≡ same name (unescaped quote text)

@@ -1,6 +1,7 @@
 // What is asked of a token's key: its text, with escapes undone, and its index.
 use recognisers::Key;
 use recognisers::is_exactly;
+use recognisers::stands_at;
 ghost use mathlib.Core.Path.{_≡_};
 ghost use mathlib.Core.Bool.{_&&_};
 ghost use Prim.Native.Nat.{_+_, _≤_, _<_};
@@ -28,15 +29,6 @@ fn is_escape(text: &[u8], i: usize, quote: u8) -> bool
     false
 }
 
-fn has_byte(name: &[u8], j: usize, b: u8) -> bool
-    ensures { λ r. ⌜ r ≡ startsWith b (drop j (now (name .entry))) ⌝ }
-{
-    if j < name.len() {
-        return name[j] == b;
-    }
-    false
-}
-
 // The name is the text with its escapes undone.
 fn is_unescaped(name: &[u8], text: &[u8], quote: u8) -> bool
     ensures { λ r. ⌜ r ≡ same (now (name .entry)) (unescaped quote (now (text .entry))) ⌝ }
@@ -47,7 +39,7 @@ fn is_unescaped(name: &[u8], text: &[u8], quote: u8) -> bool
         if is_escape(text, i, quote) {
             i += 1;
         } else {
-            if has_byte(name, j, text[i]) {
+            if stands_at(name, j, text[i]) {
                 i += 1;
                 j += 1;
             } else {

@@ -1,4 +1,5 @@
 -- Laws that the proofs cite, and those of the Rust's own form of the definitions (Uc..).
+pub mod Behind
 pub mod PhraseWalk
 pub mod FirstEntry
 pub mod EntryTokens

@@ -26,58 +26,39 @@ use Rattle.recognisers.proofs.Spelling.{more-zero, more-more}
 use Rattle.recognisers.proofs.TakenInside.{Inside, done-inside, one-inside, end-of-word-inside, fits-more}
 use Rattle.recognisers.proofs.Blanks.{blanks-none, blanks-then, blanks-inside}
 use Rattle.reserved.specs.Phrases.{Phrase, phrase, phraseIfExists, walk, after, optional}
+use Rattle.reserved.specs.UcChoices.{behind}
+use Rattle.reserved.proofs.Behind.{behind-behind, behind-same, bytes-behind}
 use Rattle.reserved.specs.Entries.{ifExists, ending, entryEnd}
 
 abbrev pub wordsOf : Phrase → List ℕ
 wordsOf (phrase words) = words
 wordsOf (phraseIfExists words) = words
 
--- what a part takes, and then another: no way back
-abbrev pub andThen : Taken → Part → Part
-andThen (Bytes n) then s = more n (then (drop n s))
-andThen Fails then s = Fails
-
-one-and : (test : ℕ → Bool) (then : Part) (s : List ℕ) → one test then s ≡ andThen (one test done s) then s
+one-behind : (test : ℕ → Bool) (then : Part) (s : List ℕ) → one test then s ≡ behind (one test done s) then s
 unfolding one
-one-and test then [] = refl
-one-and test then (b ∷ s) = go (test b)
-  where
-    go : (t : Bool) → cond t (more 1 (then s)) Fails ≡ andThen (cond t (more 1 (done s)) Fails) then (b ∷ s)
-    go true = refl
-    go false = refl
+one-behind test then [] = refl
+one-behind test then (b ∷ s) = bytes-behind (test b) 1 then (b ∷ s)
 
-blanks-and : (then : Part) (s : List ℕ) → blanks then s ≡ andThen (blanks done s) then s
+blanks-behind : (then : Part) (s : List ℕ) → blanks then s ≡ behind (blanks done s) then s
 unfolding blanks
-blanks-and then s = go (isWhitespace (codePoint s))
-  where
-    go : (t : Bool) → cond t (more (run isWhitespace 0 s) (then (drop (run isWhitespace 0 s) s))) Fails ≡ andThen (cond t (more (run isWhitespace 0 s) (Bytes 0)) Fails) then s
-    go true = rw (add-zero (run isWhitespace 0 s))
-    go false = refl
+blanks-behind then s = bytes-behind (isWhitespace (codePoint s)) (run isWhitespace 0 s) then s
 
-pub walk-step : (p : ℕ) (words : List ℕ) (then : Part) (s : List ℕ) → walk (p ∷ words) then s ≡ andThen (walk (p ∷ []) done s) (walk words then) s
+pub walk-step : (p : ℕ) (words : List ℕ) (then : Part) (s : List ℕ) → walk (p ∷ words) then s ≡ behind (walk (p ∷ []) done s) (walk words then) s
 unfolding walk
 walk-step p words then s = go (eqb p 32)
   where
-    go : (t : Bool) → cond t (blanks (walk words then) s) (one (λ b. eqb (capital b) p) (walk words then) s) ≡ andThen (cond t (blanks done s) (one (λ b. eqb (capital b) p) done s)) (walk words then) s
-    go true = blanks-and (walk words then) s
-    go false = one-and (λ b. eqb (capital b) p) (walk words then) s
+    go : (t : Bool) → cond t (blanks (walk words then) s) (one (λ b. eqb (capital b) p) (walk words then) s) ≡ behind (cond t (blanks done s) (one (λ b. eqb (capital b) p) done s)) (walk words then) s
+    go true = blanks-behind (walk words then) s
+    go false = one-behind (λ b. eqb (capital b) p) (walk words then) s
 
-pub walk-and : (words : List ℕ) (then : Part) (s : List ℕ) → walk words then s ≡ andThen (walk words done s) then s
+pub walk-and : (words : List ℕ) (then : Part) (s : List ℕ) → walk words then s ≡ behind (walk words done s) then s
 unfolding walk
 walk-and [] then s = sym (more-zero (then s))
 walk-and (p ∷ words) then s =
     walk-step p words then s
-    ∙ go (walk (p ∷ []) done s) (λ n. walk-and words then (drop n s))
-    ∙ ap (λ (t : Taken). andThen t then s) (sym (walk-step p words done s))
-  where
-    both : (n : ℕ) (o : Taken) → more n (andThen o then (drop n s)) ≡ andThen (more n o) then s
-    both n (Bytes m) = more-more n m (then (drop m (drop n s))) ∙ rw (drop-drop m n s)
-    both n Fails = refl
-
-    go : (t : Taken) → ((n : ℕ) → walk words then (drop n s) ≡ andThen (walk words done (drop n s)) then (drop n s))
-        → andThen t (walk words then) s ≡ andThen (andThen t (walk words done) s) then s
-    go (Bytes n) ih = ap (more n) (ih n) ∙ both n (walk words done (drop n s))
-    go Fails ih = refl
+    ∙ behind-same (walk (p ∷ []) done s) (walk words then) (λ u. behind (walk words done u) then u) s (walk-and words then)
+    ∙ sym (behind-behind (walk (p ∷ []) done s) (walk words done) then s)
+    ∙ ap (λ (t : Taken). behind t then s) (sym (walk-step p words done s))
 
 pub walk-inside : (words : List ℕ) (then : Part) → Inside then → Inside (walk words then)
 unfolding walk
@@ -87,14 +68,6 @@ walk-inside (p ∷ words) then h s = go (eqb p 32) (walk-inside words then h)
     go : (t : Bool) → Inside (walk words then) → taken (cond t (blanks (walk words then) s) (one (λ b. eqb (capital b) p) (walk words then) s)) ≤ length s
     go true rest = blanks-inside (walk words then) rest s
     go false rest = one-inside (λ b. eqb (capital b) p) (walk words then) rest s
-
-step-inside : (p : ℕ) → Inside (walk (p ∷ []) done)
-unfolding walk
-step-inside p s = go (eqb p 32)
-  where
-    go : (t : Bool) → taken (cond t (blanks done s) (one (λ b. eqb (capital b) p) done s)) ≤ length s
-    go true = blanks-inside done done-inside s
-    go false = one-inside (λ b. eqb (capital b) p) done done-inside s
 
 -- ---- a byte of a phrase, as `word_step` has it
 
@@ -152,9 +125,9 @@ module _ (words s : List ℕ) (at i : ℕ) (w : WalkAt words s at i) (h : i < le
   t-is : t ≡ walk (getD words i 0 ∷ []) done (drop at s)
   t-is = e ∙ ap (walk (getD words i 0 ∷ []) done) (part-end s at)
 
-  go-on : walk words done s ≡ more at (andThen t (walk (drop (suc i) words) done) (drop at s))
+  go-on : walk words done s ≡ more at (behind t (walk (drop (suc i) words) done) (drop at s))
   go-on =
-      let k : walk (drop i words) done (drop at s) ≡ andThen t (walk (drop (suc i) words) done) (drop at s) =
+      let k : walk (drop i words) done (drop at s) ≡ behind t (walk (drop (suc i) words) done) (drop at s) =
       rw (drop-cons words i 0 h, t-is) (walk-step (getD words i 0) (drop (suc i) words) done (drop at s)) in
       w .same ∙ ap (more at) k
 
@@ -164,7 +137,7 @@ module _ (words s : List ℕ) (at i : ℕ) (w : WalkAt words s at i) (h : i < le
   module _ (n : ℕ) (f : t ≡ Bytes n) where
     fits : at + n ≤ length s
     fits =
-        let k : taken t ≤ length (drop at s) = rw t-is (step-inside (getD words i 0) (drop at s)) in
+        let k : taken t ≤ length (drop at s) = rw t-is (walk-inside (getD words i 0 ∷ []) done done-inside (drop at s)) in
         let m : n ≤ length (drop at s) = rw f at k in
         let th = w .there in
         omega (arith, length-drop at s)

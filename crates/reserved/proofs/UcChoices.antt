@@ -5,7 +5,7 @@ use Prim.Native.Nat.{ℕ}
 use native.Mathlib.Nat.{add-zero}
 use mathlib.Core.Path.{_≡_, refl, sym, ap, _∙_}
 use mathlib.Core.List.{List, [], _∷_, _++_}
-use mathlib.Core.Bool.{Bool, true, false, cond, not, _&&_, _||_, false≢true, and-eq-true-iff}
+use mathlib.Core.Bool.{Bool, true, false, not, _&&_, _||_, false≢true, and-eq-true-iff}
 use lib.ListN.{length, drop}
 use lib.Seq.{drop-drop}
 use lib.Dec.{eqb}
@@ -13,8 +13,9 @@ use borrow.Author.Tests.{eqb-true, eq-eqb}
 use Rattle.recognisers.specs.declared.Taken.{Taken}
 use Rattle.recognisers.specs.declared.Taken.the-variants.{Bytes, Fails}
 use Rattle.recognisers.specs.Taking.{Part, more, or, done, typed, isSpelled, literal}
-use Rattle.recognisers.proofs.Spelling.{more-zero, more-more, spelled-is}
+use Rattle.recognisers.proofs.Spelling.{more-zero, spelled-is}
 use Rattle.reserved.specs.UcChoices.{Choice, words, both, either, maybe, behind, firstWord, choose}
+use Rattle.reserved.proofs.Behind.{behind-behind, behind-same, literal-behind}
 use Rattle.reserved.proofs.UcFind.{not-fails, left-of}
 use Rattle.reserved.proofs.UcWords.{literal-append}
 
@@ -23,26 +24,6 @@ use Rattle.reserved.proofs.UcWords.{literal-append}
 pub or-fails : (t : Taken) → or t Fails ≡ t
 or-fails (Bytes n) = refl
 or-fails Fails = refl
-
-behind-behind : (t : Taken) (a b : Part) (s : List ℕ) → behind (behind t a s) b s ≡ behind t (λ u. behind (a u) b u) s
-behind-behind (Bytes n) a b s = go (a (drop n s))
-  where
-    go : (u : Taken) → behind (more n u) b s ≡ more n (behind u b (drop n s))
-    go (Bytes m) = rw (← drop-drop m n s) (sym (more-more n m (b (drop m (drop n s)))))
-    go Fails = refl
-behind-behind Fails a b s = refl
-
-behind-same : (t : Taken) (a b : Part) (s : List ℕ) → ((u : List ℕ) → a u ≡ b u) → behind t a s ≡ behind t b s
-behind-same (Bytes n) a b s e = rw (e (drop n s))
-behind-same Fails a b s e = refl
-
-literal-behind : (w : List ℕ) (then : Part) (s : List ℕ) → literal w then s ≡ behind (literal w done s) then s
-literal-behind w then s =
-    spelled-is typed w s then ∙ go (isSpelled typed w s) ∙ ap (λ (t : Taken). behind t then s) (sym (spelled-is typed w s done))
-  where
-    go : (t : Bool) → cond t (more (length w) (then (drop (length w) s))) Fails ≡ behind (cond t (more (length w) (Bytes 0)) Fails) then s
-    go true = rw (add-zero (length w))
-    go false = refl
 
 -- ---- phrases written out: the first that stands, with what follows it
 

@@ -1,7 +1,6 @@
 -- The Rust's own way to a reserved phrase takes what `walk` takes, on any bytes that do not begin with whitespace.
 -- Assumes nothing.
 use Prim.Native.Nat.{ℕ, zero, suc}
-use native.Mathlib.Nat.{add-zero}
 use native.Mathlib.Omega.{arith}
 use mathlib.Core.Path.{_≡_, refl, sym, ap, _∙_}
 use mathlib.Core.List.{List, [], _∷_, _++_}
@@ -15,11 +14,12 @@ use Rattle.unicode.specs.Runs.{run}
 use Rattle.recognisers.specs.declared.Taken.{Taken}
 use Rattle.recognisers.specs.declared.Taken.the-variants.{Bytes, Fails}
 use Rattle.recognisers.specs.Text.{bytes}
-use Rattle.recognisers.specs.Taking.{Part, more, done, one, typed, isSpelled, spelled, literal, endOfWord}
-use Rattle.recognisers.proofs.Spelling.{spelled-is}
+use Rattle.recognisers.specs.Taking.{Part, more, done, one, typed, spelled, literal, endOfWord}
 use Rattle.reserved.specs.Phrases.{walk, after, optional, phrase, phraseIfExists}
 use Rattle.reserved.specs.UcWords.{trimStart, splitWhitespace, getUcWords, lastWord, finalize, opt, ucPhrase, finalized, phraseByUcWords}
-use Rattle.reserved.proofs.PhraseWalk.{andThen, walk-step, walk-and}
+use Rattle.reserved.specs.UcChoices.{behind}
+use Rattle.reserved.proofs.Behind.{behind-same, literal-behind}
+use Rattle.reserved.proofs.PhraseWalk.{walk-step, walk-and}
 use Rattle.reserved.proofs.UcAhead.{begins, shaped, ahead, ahead-end, stands, done-alike, end-of-word-alike, stands-alike, letter-shape, no-gap}
 use Rattle.reserved.proofs.UcFind.{not-fails, left-of, letter-of, no-letter-at-end, endsItself, finalize-walk}
 
@@ -71,12 +71,12 @@ walk-done words s m e = go (walk words done s) refl
   where
     go : (t : Taken) → walk words done s ≡ t → walk words done s ≡ Bytes m
     go (Bytes a) q =
-        let f : more a (endOfWord (drop a s)) ≡ Bytes m = ap (λ (t : Taken). andThen t endOfWord s) (sym q) ∙ (sym (walk-and words endOfWord s) ∙ e) in
+        let f : more a (endOfWord (drop a s)) ≡ Bytes m = ap (λ (t : Taken). behind t endOfWord s) (sym q) ∙ (sym (walk-and words endOfWord s) ∙ e) in
         let l = left-of a (endOfWord (drop a s)) m f in
         let z = end-takes-none (drop a s) (l .left) (l .is) in
         let sum = l .sum in
         q ∙ ap Bytes (omega arith)
-    go Fails q = not-fails m (ap (λ (t : Taken). andThen t endOfWord s) (sym q) ∙ (sym (walk-and words endOfWord s) ∙ e))
+    go Fails q = not-fails m (ap (λ (t : Taken). behind t endOfWord s) (sym q) ∙ (sym (walk-and words endOfWord s) ∙ e))
 
 -- ---- one phrase
 
@@ -116,7 +116,7 @@ agrees (suc n) words s h w =
 
 -- a part that goes on with what follows where it has taken its bytes, and does not come back
 abbrev Forward : (Part → Part) → Type 0
-Forward part = (then : Part) (s : List ℕ) → part then s ≡ andThen (part done s) then s
+Forward part = (then : Part) (s : List ℕ) → part then s ≡ behind (part done s) then s
 
 -- `opt(..)` between a part and the end of the word
 module _ (first second : Part → Part) (f : Forward first) (g : Forward second) (s : List ℕ) where
@@ -126,11 +126,11 @@ module _ (first second : Part → Part) (f : Forward first) (g : Forward second)
   opt-yes : stands (first (second done) s) ≡ true → first maybe s ≡ first (second endOfWord) s
   opt-yes e = f maybe s ∙ go (first done s) (rw (f (second done) s) at e) ∙ sym (f (second endOfWord) s)
     where
-      inner : (n : ℕ) (t : Taken) → second done (drop n s) ≡ t → stands (more n t) ≡ true → after t endOfWord (drop n s) ≡ andThen t endOfWord (drop n s)
+      inner : (n : ℕ) (t : Taken) → second done (drop n s) ≡ t → stands (more n t) ≡ true → after t endOfWord (drop n s) ≡ behind t endOfWord (drop n s)
       inner n (Bytes k) q h = refl
       inner n Fails q h = absurd (false≢true h)
 
-      go : (t : Taken) → stands (andThen t (second done) s) ≡ true → andThen t maybe s ≡ andThen t (second endOfWord) s
+      go : (t : Taken) → stands (behind t (second done) s) ≡ true → behind t maybe s ≡ behind t (second endOfWord) s
       go (Bytes n) h = ap (more n) (inner n (second done (drop n s)) refl h ∙ sym (g endOfWord (drop n s)))
       go Fails h = refl
 
@@ -141,7 +141,7 @@ module _ (first second : Part → Part) (f : Forward first) (g : Forward second)
       inner n (Bytes k) h = absurd (true≢false h)
       inner n Fails h = refl
 
-      go : (t : Taken) → stands (andThen t (second done) s) ≡ false → andThen t maybe s ≡ andThen t endOfWord s
+      go : (t : Taken) → stands (behind t (second done) s) ≡ false → behind t maybe s ≡ behind t endOfWord s
       go (Bytes n) h = ap (more n) (inner n (second done (drop n s)) h)
       go Fails h = refl
 
@@ -149,19 +149,9 @@ walk-append : (words more : List ℕ) (then : Part) (s : List ℕ) → walk (wor
 unfolding walk
 walk-append [] more then s = refl
 walk-append (p ∷ words) more then s =
-    walk-step p (words ++ more) then s ∙ go (walk (p ∷ []) done s) (walk-append words more then) ∙ sym (walk-step p words (walk more then) s)
-  where
-    go : (t : Taken) → ((u : List ℕ) → walk (words ++ more) then u ≡ walk words (walk more then) u) → andThen t (walk (words ++ more) then) s ≡ andThen t (walk words (walk more then)) s
-    go (Bytes n) ih = rw (ih (drop n s))
-    go Fails ih = refl
-
-literal-and : (words : List ℕ) → Forward (literal words)
-literal-and words then s =
-    spelled-is typed words s then ∙ go (isSpelled typed words s) ∙ ap (λ (t : Taken). andThen t then s) (sym (spelled-is typed words s done))
-  where
-    go : (t : Bool) → cond t (more (length words) (then (drop (length words) s))) Fails ≡ andThen (cond t (more (length words) (Bytes 0)) Fails) then s
-    go true = rw (add-zero (length words))
-    go false = refl
+    walk-step p (words ++ more) then s
+    ∙ behind-same (walk (p ∷ []) done s) (walk (words ++ more) then) (walk words (walk more then)) s (walk-append words more then)
+    ∙ sym (walk-step p words (walk more then) s)
 
 pub literal-append : (words more : List ℕ) (then : Part) (s : List ℕ) → literal (words ++ more) then s ≡ literal words (literal more then) s
 unfolding spelled one
@@ -190,13 +180,13 @@ module _ (n : ℕ) (words s : List ℕ) (h : isPhrase n words ≡ true) (w : isW
       where
         go : (t : Bool) → stands (walk (words ++ exists) done s) ≡ t → finalized s uc (literal words (opt exists endOfWord) uc) ≡ walk words (optional exists endOfWord) s
         go true e =
-            ap (finalized s uc) (opt-yes (literal words) (literal exists) (literal-and words) (literal-and exists) uc (ap stands (sym (literal-append words exists done uc)) ∙ (both-stand n h₂ ∙ e)))
+            ap (finalized s uc) (opt-yes (literal words) (literal exists) (literal-behind words) (literal-behind exists) uc (ap stands (sym (literal-append words exists done uc)) ∙ (both-stand n h₂ ∙ e)))
             ∙ ap (finalized s uc) (sym (literal-append words exists endOfWord uc))
             ∙ agrees n (words ++ exists) s h₂ w
             ∙ walk-append words exists endOfWord s
             ∙ sym (opt-yes (walk words) (walk exists) (walk-and words) (walk-and exists) s (ap stands (sym (walk-append words exists done s)) ∙ e))
         go false e =
-            ap (finalized s uc) (opt-no (literal words) (literal exists) (literal-and words) (literal-and exists) uc (ap stands (sym (literal-append words exists done uc)) ∙ (both-stand n h₂ ∙ e)))
+            ap (finalized s uc) (opt-no (literal words) (literal exists) (literal-behind words) (literal-behind exists) uc (ap stands (sym (literal-append words exists done uc)) ∙ (both-stand n h₂ ∙ e)))
             ∙ agrees n words s h w
             ∙ sym (opt-no (walk words) (walk exists) (walk-and words) (walk-and exists) s (ap stands (sym (walk-append words exists done s)) ∙ e))
 

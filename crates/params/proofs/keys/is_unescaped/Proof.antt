@@ -26,11 +26,11 @@ loop-less c = search needs
 loop-again : tie.Need-loop-again Inv-loop μ-loop
 loop-again c = search compare-skip
 
-shared-slice-read-has-byte : tie.Need-shared-slice-read-has-byte Inv-loop μ-loop
-shared-slice-read-has-byte c = search needs
+shared-slice-read-stands-at : tie.Need-shared-slice-read-stands-at Inv-loop μ-loop
+shared-slice-read-stands-at c = search needs
 
-has-byte-requires : tie.Need-has-byte-requires Inv-loop μ-loop
-has-byte-requires c κs = search needs
+stands-at-requires : tie.Need-stands-at-requires Inv-loop μ-loop
+stands-at-requires c κs = search needs
 
 add-i-2 : tie.Need-add-i-2 Inv-loop μ-loop
 add-i-2 c = search needs
@@ -61,8 +61,8 @@ is-unescaped-spec =
     add-i
     loop-less
     loop-again
-    shared-slice-read-has-byte
-    has-byte-requires
+    shared-slice-read-stands-at
+    stands-at-requires
     add-i-2
     add-j
     loop-less-2
