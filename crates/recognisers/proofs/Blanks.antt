@@ -14,7 +14,7 @@ use Rattle.unicode.proofs.Rests.{part-end}
 use Rattle.unicode.proofs.RunLaws.{run-inside, run-none-class, run-some-class}
 use Rattle.recognisers.specs.declared.Taken.{Taken}
 use Rattle.recognisers.specs.declared.Taken.the-variants.{Fails}
-use Rattle.recognisers.specs.Taking.{Part, taken, more, capital, isSpelled, spelled, blanks, endOfWord}
+use Rattle.recognisers.specs.Taking.{Taker, taken, more, capital, isSpelled, spelled, blanks, endOfWord}
 use Rattle.recognisers.proofs.Spelling.{word-fits, word-then, word-not}
 use Rattle.recognisers.proofs.TakenInside.{Inside, fits-more, then-inside, cond-inside, spelled-inside, end-of-word-inside}
 
@@ -30,7 +30,7 @@ module _ (s : List ℕ) (n : ℕ) (e : n ≡ run (inClass Whitespace) 0 s) where
       go [] q = rw q end-not-white
       go (b ∷ t) q = run-none-class Whitespace s (rw q (suc-le-suc zero-le)) (sym e ∙ z)
 
-  module _ (then : Part) where
+  module _ (then : Taker) where
     pub blanks-none : n ≡ 0 → Fails ≡ blanks then s
     unfolding blanks
     blanks-none z = rw (none z)
@@ -41,7 +41,7 @@ module _ (s : List ℕ) (n : ℕ) (e : n ≡ run (inClass Whitespace) 0 s) where
         let some : isWhitespace (codePoint s) ≡ true = run-some-class Whitespace s (λ y. z (e ∙ y)) in
         g ∙ rw (some, ← e, f, part-end s n)
 
-pub blanks-inside : (then : Part) → Inside then → Inside (blanks then)
+pub blanks-inside : (then : Taker) → Inside then → Inside (blanks then)
 unfolding blanks inClass
 blanks-inside then h s =
     cond-inside (isWhitespace (codePoint s)) (more (run isWhitespace 0 s) (then (drop (run isWhitespace 0 s) s))) (length s)
@@ -50,7 +50,7 @@ blanks-inside then h s =
 -- ---- a word in capitals behind whitespace, as `blanks_then_word` and `end_case` use it
 
 module _ (case : List ℕ) where
-  abbrev word : Part
+  abbrev word : Taker
   word = spelled capital case endOfWord
 
   pub word-inside : Inside word

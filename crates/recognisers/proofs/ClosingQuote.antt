@@ -13,7 +13,7 @@ use lib.Dec.{eqb}
 use borrow.Author.Tests.{eq-eqb, ne-eqb}
 use Rattle.recognisers.specs.declared.Taken.{Taken}
 use Rattle.recognisers.specs.declared.Taken.the-variants.{Bytes, Fails}
-use Rattle.recognisers.specs.Taking.{Part, taken, more, typed, isSpelled, spelled, contains, startsWith}
+use Rattle.recognisers.specs.Taking.{Taker, taken, more, typed, isSpelled, spelled, contains, startsWith}
 use Rattle.recognisers.specs.Strings.{takeTillEscaping, closedBy}
 use Rattle.recognisers.proofs.Spelling.{more-more, word-fits, word-then, word-not}
 use Rattle.recognisers.proofs.TakenInside.{Inside, fits-more}
@@ -26,7 +26,7 @@ starts-some d [] e = absurd (false≢true e)
 starts-some d (c ∷ s) e = suc-le-suc zero-le
 
 module _ (d : ℕ) (esc : List ℕ) where
-  abbrev till : Part
+  abbrev till : Taker
   till = takeTillEscaping d esc false
 
   pub quote-start : (s : List ℕ) → PassedAt till s 0

@@ -13,21 +13,21 @@ use lib.Dec.{eqb}
 use borrow.Author.Tests.{eq-eqb, ne-eqb}
 use Rattle.recognisers.specs.declared.Taken.{Taken}
 use Rattle.recognisers.specs.declared.Taken.the-variants.{Bytes, Fails}
-use Rattle.recognisers.specs.Taking.{Part, taken, more, startsWith}
+use Rattle.recognisers.specs.Taking.{Taker, taken, more, startsWith}
 use Rattle.recognisers.specs.Comment.{tillLineEnding, throughBlockEnd}
 use Rattle.recognisers.proofs.Spelling.{more-zero, more-more}
 use Rattle.recognisers.proofs.TakenInside.{Inside}
 
--- i bytes are passed of what a part takes
-pub record PassedAt (part : Part) (s : List ℕ) (i : ℕ) : Type 0 where
+-- i bytes are passed of what a taker takes
+pub record PassedAt (part : Taker) (s : List ℕ) (i : ℕ) : Type 0 where
   pub inside : i ≤ length s
   pub same : part s ≡ more i (part (drop i s))
 
-pub passed-start : (part : Part) (s : List ℕ) → PassedAt part s 0
+pub passed-start : (part : Taker) (s : List ℕ) → PassedAt part s 0
 passed-start part s = record { inside = zero-le; same = sym (more-zero (part s)) }
 
--- one byte more, where the part passes it
-pub passed-more : (part : Part) (s : List ℕ) (i : ℕ) → PassedAt part s i → i < length s → part (drop i s) ≡ more 1 (part (drop (suc i) s)) → PassedAt part s (i + 1)
+-- one byte more, where the taker passes it
+pub passed-more : (part : Taker) (s : List ℕ) (i : ℕ) → PassedAt part s i → i < length s → part (drop i s) ≡ more 1 (part (drop (suc i) s)) → PassedAt part s (i + 1)
 passed-more part s i at h e =
     record {
       inside = omega arith;

@@ -12,13 +12,13 @@ use borrow.Author.Tests.{le-leb}
 use Rattle.recognisers.specs.declared.Taken.{Taken}
 use Rattle.recognisers.specs.declared.Taken.the-variants.{Bytes, Fails}
 use Rattle.recognisers.specs.Text.{bytes}
-use Rattle.recognisers.specs.Taking.{Part, more, or, done, one, typed, spelled, digit1, digit0, count, isDigit, atLeast, contains, startsAmong}
+use Rattle.recognisers.specs.Taking.{Taker, more, or, done, one, typed, spelled, digit1, digit0, count, isDigit, atLeast, contains, startsAmong}
 use Rattle.recognisers.specs.Number.{decimalNumber, signedDigits, exponent, scientificNotation, unsigned}
 use Rattle.recognisers.proofs.ByteLoops.{count-inside}
 use Rattle.unicode.proofs.Rests.{part-end}
 use Rattle.recognisers.proofs.TakenInside.{Inside, or-inside, done-inside, one-inside, spelled-inside, digit0-inside, digit1-inside}
 
-module _ (then : Part) (s : List ℕ) (n : ℕ) (e : n ≡ count isDigit s) where
+module _ (then : Taker) (s : List ℕ) (n : ℕ) (e : n ≡ count isDigit s) where
   pub digits-fit : n ≤ length s
   digits-fit = rw e (count-inside isDigit s)
 
@@ -43,7 +43,7 @@ module _ (s : List ℕ) (n : ℕ) (e : n ≡ count isDigit s) where
   unfolding digit0
   digits-or-none q g = g ∙ rw (← e)
 
-module _ (then : Part) (m s : List ℕ) (r : Bool) (e : r ≡ startsAmong m s) where
+module _ (then : Taker) (m s : List ℕ) (r : Bool) (e : r ≡ startsAmong m s) where
   pub marked-fits : r ≡ true → 1 ≤ length s
   unfolding startsAmong
   marked-fits t = go s (sym e ∙ t)
@@ -99,10 +99,10 @@ pub exponent-inside : Inside exponent
 unfolding exponent
 exponent-inside s = spelled-inside typed (bytes "e") signedDigits signed-inside s
 
-pub fraction-inside : (then : Part) → Inside then → Inside (spelled typed (bytes ".") (digit0 then))
+pub fraction-inside : (then : Taker) → Inside then → Inside (spelled typed (bytes ".") (digit0 then))
 fraction-inside then h = spelled-inside typed (bytes ".") (digit0 then) (digit0-inside then h)
 
-pub decimal-inside : (then : Part) → Inside then → Inside (decimalNumber then)
+pub decimal-inside : (then : Taker) → Inside then → Inside (decimalNumber then)
 unfolding decimalNumber
 decimal-inside then h = digit1-inside (spelled typed (bytes ".") (digit0 then)) (fraction-inside then h)
 

@@ -28,18 +28,18 @@ use Rattle.recognisers.specs.declared.TokenKind.the-variants as K
 use Rattle.recognisers.specs.declared.Recognised.{Recognised}
 use Rattle.recognisers.specs.declared.Recognised.the-variants.{Token, Nothing}
 use Rattle.recognisers.specs.Text.{byte, bytes}
-use Rattle.recognisers.specs.Taking.{Part, more, or, done, one, spelled, typed, capital, blanks, endOfWord, digit0, digit1, count, isDigit, atLeast, contains, startsWith}
+use Rattle.recognisers.specs.Taking.{Taker, more, or, done, one, spelled, typed, capital, blanks, endOfWord, digit0, digit1, count, isDigit, atLeast, contains, startsWith}
 use Rattle.recognisers.specs.Pieces.{tokenOf, alt}
 use Rattle.recognisers.specs.Comment.{tillLineEnding, throughBlockEnd, getCommentToken}
 use Rattle.recognisers.specs.TypeSpecifier.{getTypeSpecifierToken}
-use Rattle.recognisers.specs.Strings.{takeTillEscaping, closedBy, inSQLServer, hexPart, quotedPart, stringPart, getStringToken, placeholderQuotedPart, placeholderStringPart}
+use Rattle.recognisers.specs.Strings.{takeTillEscaping, closedBy, inSQLServer, hexTaken, quotedTaken, stringTaken, getStringToken, placeholderQuotedTaken, placeholderStringTaken}
 use Rattle.recognisers.specs.Parens.{inPostgreSql, getOpenParenToken, getCloseParenToken}
 use Rattle.recognisers.specs.Number.{decimalNumber, signedDigits, exponent, scientificNotation, unsigned, getNumberToken}
-use Rattle.recognisers.specs.Placeholder.{keyed, indexedKey, indexedPart, getIndexedPlaceholderToken, placeholderName, identPart, getIdentNamedPlaceholderToken, throughBrace, bracedText, bracedPart, getBracedNamedPlaceholderToken, stringKey, stringNamedPart, getStringNamedPlaceholderToken, getPlaceholderToken}
+use Rattle.recognisers.specs.Placeholder.{keyed, indexedKey, indexedTaken, getIndexedPlaceholderToken, placeholderName, identTaken, getIdentNamedPlaceholderToken, throughBrace, bracedText, bracedTaken, getBracedNamedPlaceholderToken, stringKey, stringNamedTaken, getStringNamedPlaceholderToken, getPlaceholderToken}
 use Rattle.recognisers.specs.Words.{getWhitespaceToken, isOperator, getOperatorToken, getWordToken, getAnyOtherChar}
 use Rattle.unicode.proofs.WellFormedCuts.{Stop, at-end, before, behind, stop-cut, stop-later, ascii-next, run-cut}
 
--- ---- what a part leaves
+-- ---- what a taker leaves
 
 abbrev pub Left : List ℕ → Taken → Type 0
 Left s (Bytes n) = wellFormed (drop n s) ≡ true
@@ -51,7 +51,7 @@ pub record Leaves (s : List ℕ) (t : Taken) : Type 0 where
 pub fails-leaves : (s : List ℕ) → Leaves s Fails
 fails-leaves s = record { left = tt }
 
-abbrev pub Cuts : Part → Type 0
+abbrev pub Cuts : Taker → Type 0
 Cuts part = (s : List ℕ) → wellFormed s ≡ true → Leaves s (part s)
 
 pub or-leaves : (s : List ℕ) (a b : Taken) → Leaves s a → Leaves s b → Leaves s (or a b)
@@ -70,7 +70,7 @@ more-leaves n s Fails h = fails-leaves s
 abbrev Plain : (ℕ → Bool) → Type 0
 Plain test = (b : ℕ) → test b ≡ true → b < 0x80
 
-pub one-cuts : (test : ℕ → Bool) → Plain test → (then : Part) → Cuts then → Cuts (one test then)
+pub one-cuts : (test : ℕ → Bool) → Plain test → (then : Taker) → Cuts then → Cuts (one test then)
 unfolding one
 one-cuts test a then h [] w = fails-leaves []
 one-cuts test a then h (b ∷ s) w = go (test b) refl
@@ -100,7 +100,7 @@ abbrev pub allAscii : List ℕ → Bool
 allAscii [] = true
 allAscii (w ∷ word) = ltb w 0x80 && allAscii word
 
-pub spelled-cuts : (form : ℕ → ℕ) → Keeps form → (word : List ℕ) → allAscii word ≡ true → (then : Part) → Cuts then → Cuts (spelled form word then)
+pub spelled-cuts : (form : ℕ → ℕ) → Keeps form → (word : List ℕ) → allAscii word ≡ true → (then : Taker) → Cuts then → Cuts (spelled form word then)
 unfolding spelled
 spelled-cuts form k [] a then h s w = h s w
 spelled-cuts form k (x ∷ word) a then h s w =
@@ -118,7 +118,7 @@ end-of-word-cuts s w = go (isWordCharacter (codePoint s))
     go true = fails-leaves s
     go false = record { left = w }
 
-pub blanks-cuts : (then : Part) → Cuts then → Cuts (blanks then)
+pub blanks-cuts : (then : Taker) → Cuts then → Cuts (blanks then)
 unfolding blanks
 blanks-cuts then h s w =
     cond-leaves s (isWhitespace (codePoint s)) (more (run isWhitespace 0 s) (then (drop (run isWhitespace 0 s) s)))
@@ -150,13 +150,13 @@ contains-plain (x ∷ among) a b e =
     go true q rest k e = rw (eqb-true b x q) (ltb-true x 0x80 k)
     go false q rest k e = rest e
 
-digit0-cuts : (then : Part) → Cuts then → Cuts (digit0 then)
+digit0-cuts : (then : Taker) → Cuts then → Cuts (digit0 then)
 unfolding digit0
 digit0-cuts then h s w =
     more-leaves (count isDigit s) s (then (drop (count isDigit s) s))
     (h (drop (count isDigit s) s) (count-cut isDigit digit-plain s (count isDigit s) (le-refl (count isDigit s)) w))
 
-digit1-cuts : (then : Part) → Cuts then → Cuts (digit1 then)
+digit1-cuts : (then : Taker) → Cuts then → Cuts (digit1 then)
 unfolding digit1 digit0
 digit1-cuts then h s w = cond-leaves s (leb 1 (count isDigit s)) (more (count isDigit s) (then (drop (count isDigit s) s))) (digit0-cuts then h s w)
 
@@ -294,10 +294,10 @@ module _ (s : List ℕ) (w : wellFormed s ≡ true) where
       go false = at-least-leaves s 1 (characterLength s) (character-left s w)
 
   -- these bytes, and a part behind them
-  literal-leaves : (word : List ℕ) → allAscii word ≡ true → (then : Part) → Cuts then → Leaves s (spelled typed word then s)
+  literal-leaves : (word : List ℕ) → allAscii word ≡ true → (then : Taker) → Cuts then → Leaves s (spelled typed word then s)
   literal-leaves word a then h = spelled-cuts typed typed-keeps word a then h s w
 
-  caseless-leaves : (word : List ℕ) → allAscii word ≡ true → (then : Part) → Cuts then → Leaves s (spelled capital word then s)
+  caseless-leaves : (word : List ℕ) → allAscii word ≡ true → (then : Taker) → Cuts then → Leaves s (spelled capital word then s)
   caseless-leaves word a then h = spelled-cuts capital capital-keeps word a then h s w
 
   pub comment-bounded : Bounded s (getCommentToken s)
@@ -326,12 +326,12 @@ module _ (s : List ℕ) (w : wellFormed s ≡ true) where
   in-sql-server PostgreSql = fails-leaves s
   in-sql-server SQLServer = quote (bytes "[") (byte "]") (bytes "]") refl (omega arith)
 
-  hex-leaves : Leaves s (hexPart s)
-  unfolding hexPart
+  hex-leaves : Leaves s (hexTaken s)
+  unfolding hexTaken
   hex-leaves = or-leaves s (spelled typed (bytes "x'") (closedBy (byte "'") []) s) _ (quote (bytes "x'") (byte "'") [] refl (omega arith)) (quote (bytes "X'") (byte "'") [] refl (omega arith))
 
-  quoted-leaves : Leaves s (quotedPart s)
-  unfolding quotedPart
+  quoted-leaves : Leaves s (quotedTaken s)
+  unfolding quotedTaken
   quoted-leaves =
       or-leaves s (spelled typed (bytes "\"") (closedBy (byte "\"") (bytes "\"\\")) s) _ (quote (bytes "\"") (byte "\"") (bytes "\"\\") refl (omega arith))
       (or-leaves s (spelled typed (bytes "'") (closedBy (byte "'") (bytes "'\\")) s) _ (quote (bytes "'") (byte "'") (bytes "'\\") refl (omega arith))
@@ -339,7 +339,7 @@ module _ (s : List ℕ) (w : wellFormed s ≡ true) where
       (or-leaves s (spelled typed (bytes "E'") (closedBy (byte "'") (bytes "'\\")) s) _ (quote (bytes "E'") (byte "'") (bytes "'\\") refl (omega arith)) hex-leaves)))
 
   pub string-bounded : (dialect : Dialect) → Bounded s (getStringToken dialect s)
-  unfolding getStringToken stringPart
+  unfolding getStringToken stringTaken
   string-bounded dialect =
       token-bounded s K.String _
       (or-leaves s (spelled typed (bytes "`") (closedBy (byte "`") (bytes "`")) s) _ (quote (bytes "`") (byte "`") (bytes "`") refl (omega arith))
@@ -375,7 +375,7 @@ module _ (s : List ℕ) (w : wellFormed s ≡ true) where
 digits-cuts : Cuts (digit1 done)
 digits-cuts = digit1-cuts done done-cuts
 
-decimal-cuts : (then : Part) → Cuts then → Cuts (decimalNumber then)
+decimal-cuts : (then : Taker) → Cuts then → Cuts (decimalNumber then)
 unfolding decimalNumber
 decimal-cuts then h s w = digit1-cuts _ (spelled-cuts typed typed-keeps (bytes ".") refl (digit0 then) (digit0-cuts then h)) s w
 
@@ -407,8 +407,8 @@ name-cuts : Cuts placeholderName
 unfolding placeholderName
 name-cuts s w = at-least-leaves s 1 (run isPlaceholderNameCharacter 0 s) (run-cut isPlaceholderNameCharacter 0 s w)
 
-placeholder-string-cuts : (dialect : Dialect) → Cuts (placeholderStringPart dialect)
-unfolding placeholderStringPart placeholderQuotedPart
+placeholder-string-cuts : (dialect : Dialect) → Cuts (placeholderStringTaken dialect)
+unfolding placeholderStringTaken placeholderQuotedTaken
 placeholder-string-cuts dialect s w =
     or-leaves s (spelled typed (bytes "`") (closedBy (byte "`") (bytes "`")) s) _ (quote s w (bytes "`") (byte "`") (bytes "`") refl (omega arith))
     (or-leaves s (inSQLServer dialect (spelled typed (bytes "[") (closedBy (byte "]") (bytes "]"))) s) _ (in-sql-server s w dialect)
@@ -418,23 +418,23 @@ placeholder-string-cuts dialect s w =
 
 module _ (s : List ℕ) (w : wellFormed s ≡ true) where
   indexed-bounded : Bounded s (getIndexedPlaceholderToken s)
-  unfolding getIndexedPlaceholderToken indexedPart
+  unfolding getIndexedPlaceholderToken indexedTaken
   indexed-bounded =
       keyed-bounded s (indexedKey s) _
       (or-leaves s (one (contains (bytes "?$")) (digit1 done) s) _ (one-cuts (contains (bytes "?$")) (contains-plain (bytes "?$") refl) (digit1 done) digits-cuts s w)
       (literal-leaves s w (bytes "?") refl done done-cuts))
 
   ident-bounded : Bounded s (getIdentNamedPlaceholderToken s)
-  unfolding getIdentNamedPlaceholderToken identPart
+  unfolding getIdentNamedPlaceholderToken identTaken
   ident-bounded = keyed-bounded s (λ n. Named 1 (n - 1)) _ (one-cuts (contains (bytes "@:$")) (contains-plain (bytes "@:$") refl) placeholderName name-cuts s w)
 
   string-named-bounded : (dialect : Dialect) → Bounded s (getStringNamedPlaceholderToken dialect s)
-  unfolding getStringNamedPlaceholderToken stringNamedPart
+  unfolding getStringNamedPlaceholderToken stringNamedTaken
   string-named-bounded dialect =
-      keyed-bounded s (stringKey s) _ (one-cuts (contains (bytes "@:")) (contains-plain (bytes "@:") refl) (placeholderStringPart dialect) (placeholder-string-cuts dialect) s w)
+      keyed-bounded s (stringKey s) _ (one-cuts (contains (bytes "@:")) (contains-plain (bytes "@:") refl) (placeholderStringTaken dialect) (placeholder-string-cuts dialect) s w)
 
   braced-bounded : Bounded s (getBracedNamedPlaceholderToken s)
-  unfolding getBracedNamedPlaceholderToken bracedPart
+  unfolding getBracedNamedPlaceholderToken bracedTaken
   braced-bounded = keyed-bounded s (λ n. Named 1 (n - 2)) _ (literal-leaves s w (bytes "{") refl bracedText braced-cuts)
 
   four-bounded : (a b c d : Recognised) → Bounded s a → Bounded s b → Bounded s c → Bounded s d → Bounded s (alt a (alt b (alt c d)))

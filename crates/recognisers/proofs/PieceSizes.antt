@@ -28,14 +28,14 @@ use Rattle.recognisers.specs.declared.Piece.{Piece}
 use Rattle.recognisers.specs.declared.Recognised.{Recognised}
 use Rattle.recognisers.specs.declared.Recognised.the-variants.{Token, Nothing}
 use Rattle.recognisers.specs.Text.{byte, bytes}
-use Rattle.recognisers.specs.Taking.{Part, taken, more, or, done, one, spelled, typed, capital, blanks, endOfWord, digit0, digit1, count, isDigit, atLeast, contains, startsWith}
+use Rattle.recognisers.specs.Taking.{Taker, taken, more, or, done, one, spelled, typed, capital, blanks, endOfWord, digit0, digit1, count, isDigit, atLeast, contains, startsWith}
 use Rattle.recognisers.specs.Pieces.{tokenOf, alt, keyStart}
 use Rattle.recognisers.specs.Comment.{tillLineEnding, throughBlockEnd, getCommentToken}
 use Rattle.recognisers.specs.TypeSpecifier.{getTypeSpecifierToken}
-use Rattle.recognisers.specs.Strings.{closedBy, inSQLServer, hexPart, quotedPart, stringPart, getStringToken, placeholderQuotedPart, placeholderStringPart}
+use Rattle.recognisers.specs.Strings.{closedBy, inSQLServer, hexTaken, quotedTaken, stringTaken, getStringToken, placeholderQuotedTaken, placeholderStringTaken}
 use Rattle.recognisers.specs.Parens.{inPostgreSql, getOpenParenToken, getCloseParenToken}
 use Rattle.recognisers.specs.Number.{decimalNumber, exponent, scientificNotation, unsigned, getNumberToken}
-use Rattle.recognisers.specs.Placeholder.{keyed, numberFrom, numberOf, indexed, indexedKey, indexedPart, getIndexedPlaceholderToken, placeholderName, identPart, getIdentNamedPlaceholderToken, bracedText, bracedPart, getBracedNamedPlaceholderToken, hasEscape, stringKey, stringNamedPart, getStringNamedPlaceholderToken, getPlaceholderToken}
+use Rattle.recognisers.specs.Placeholder.{keyed, numberFrom, numberOf, indexed, indexedKey, indexedTaken, getIndexedPlaceholderToken, placeholderName, identTaken, getIdentNamedPlaceholderToken, bracedText, bracedTaken, getBracedNamedPlaceholderToken, hasEscape, stringKey, stringNamedTaken, getStringNamedPlaceholderToken, getPlaceholderToken}
 use Rattle.recognisers.specs.Words.{getWhitespaceToken, isOperator, getOperatorToken, getWordToken, getAnyOtherChar}
 use Rattle.recognisers.proofs.ByteLoops.{count-inside}
 use Rattle.recognisers.proofs.TakenInside.{Inside, cond-inside, or-inside, done-inside, one-inside, spelled-inside, end-of-word-inside}
@@ -45,7 +45,7 @@ use Rattle.recognisers.proofs.Blanks.{blanks-inside}
 use Rattle.recognisers.proofs.Digits.{digits-inside, unsigned-inside}
 use Rattle.recognisers.proofs.PlaceholderLaws.{name-inside, placeholder-string-inside, braced-inside}
 
--- ---- what a part takes: so many bytes at least
+-- ---- what a taker takes: so many bytes at least
 
 abbrev pub Least : ℕ → Taken → Type 0
 Least k (Bytes n) = k ≤ n
@@ -71,16 +71,16 @@ one-more-least : (k : ℕ) (t : Taken) → Least k t → Least (suc k) (more 1 t
 one-more-least k (Bytes n) h = omega arith
 one-more-least k Fails h = tt
 
-pub one-least : (k : ℕ) (test : ℕ → Bool) (then : Part) → ((s : List ℕ) → Least k (then s)) → (s : List ℕ) → Least (suc k) (one test then s)
+pub one-least : (k : ℕ) (test : ℕ → Bool) (then : Taker) → ((s : List ℕ) → Least k (then s)) → (s : List ℕ) → Least (suc k) (one test then s)
 unfolding one
 one-least k test then h [] = tt
 one-least k test then h (b ∷ s) = cond-least (suc k) (test b) (more 1 (then s)) (one-more-least k (then s) (h s))
 
 -- one byte at least
-pub one-some : (test : ℕ → Bool) (then : Part) (s : List ℕ) → Least 1 (one test then s)
+pub one-some : (test : ℕ → Bool) (then : Taker) (s : List ℕ) → Least 1 (one test then s)
 one-some test then s = one-least 0 test then (λ r. least-any (then r)) s
 
-pub spelled-some : (form : ℕ → ℕ) (w : ℕ) (word : List ℕ) (then : Part) (s : List ℕ) → Least 1 (spelled form (w ∷ word) then s)
+pub spelled-some : (form : ℕ → ℕ) (w : ℕ) (word : List ℕ) (then : Taker) (s : List ℕ) → Least 1 (spelled form (w ∷ word) then s)
 unfolding spelled
 spelled-some form w word then s = one-some (λ b. eqb (form b) w) (spelled form word then) s
 
@@ -91,7 +91,7 @@ at-least k n = go (leb k n) refl
     go true e = leb-true k n e
     go false e = tt
 
-digit1-some : (then : Part) (s : List ℕ) → Least 1 (digit1 then s)
+digit1-some : (then : Taker) (s : List ℕ) → Least 1 (digit1 then s)
 unfolding digit1
 digit1-some then s = go (leb 1 (count isDigit s)) refl
   where
@@ -171,7 +171,7 @@ other-sized s = go (startsWith (byte "\n") s || startsWith (byte "\r") s)
     go false = run-sized K.Operator 1 (characterLength s) s (le-refl 1) (character-inside s)
 
 -- a token that begins with these bytes
-spelled-sized : (kind : TokenKind) (form : ℕ → ℕ) (w : ℕ) (word : List ℕ) (then : Part) → Inside then → (s : List ℕ) → Sized s (tokenOf kind (spelled form (w ∷ word) then s))
+spelled-sized : (kind : TokenKind) (form : ℕ → ℕ) (w : ℕ) (word : List ℕ) (then : Taker) → Inside then → (s : List ℕ) → Sized s (tokenOf kind (spelled form (w ∷ word) then s))
 spelled-sized kind form w word then h s =
     token-sized s kind (spelled form (w ∷ word) then s) (spelled-some form w word then s) (spelled-inside form (w ∷ word) then h s)
 
@@ -202,7 +202,7 @@ pub record Takes (k : ℕ) (s : List ℕ) (t : Taken) : Type 0 where
 pub or-takes : (k : ℕ) (s : List ℕ) (a b : Taken) → Takes k s a → Takes k s b → Takes k s (or a b)
 or-takes k s a b h l = record { least = or-least k a b (h .least) (l .least); inside = or-inside a b (length s) (h .inside) (l .inside) }
 
-pub spelled-takes : (form : ℕ → ℕ) (w : ℕ) (word : List ℕ) (then : Part) → Inside then → (s : List ℕ) → Takes 1 s (spelled form (w ∷ word) then s)
+pub spelled-takes : (form : ℕ → ℕ) (w : ℕ) (word : List ℕ) (then : Taker) → Inside then → (s : List ℕ) → Takes 1 s (spelled form (w ∷ word) then s)
 spelled-takes form w word then h s = record { least = spelled-some form w word then s; inside = spelled-inside form (w ∷ word) then h s }
 
 pub fails-takes : (k : ℕ) (s : List ℕ) → Takes k s Fails
@@ -220,26 +220,26 @@ in-sql-server Generic s = fails-takes 1 s
 in-sql-server PostgreSql s = fails-takes 1 s
 in-sql-server SQLServer s = quote (byte "[") [] (byte "]") (bytes "]") s
 
-hex-takes : (s : List ℕ) → Takes 1 s (hexPart s)
-unfolding hexPart
+hex-takes : (s : List ℕ) → Takes 1 s (hexTaken s)
+unfolding hexTaken
 hex-takes s = or-takes 1 s _ _ (quote (byte "x") (bytes "'") (byte "'") [] s) (quote (byte "X") (bytes "'") (byte "'") [] s)
 
-quoted-takes : (s : List ℕ) → Takes 1 s (quotedPart s)
-unfolding quotedPart
+quoted-takes : (s : List ℕ) → Takes 1 s (quotedTaken s)
+unfolding quotedTaken
 quoted-takes s =
     or-takes 1 s _ _ (quote (byte "\"") [] (byte "\"") (bytes "\"\\") s)
     (or-takes 1 s _ _ (quote (byte "'") [] (byte "'") (bytes "'\\") s)
     (or-takes 1 s _ _ (quote (byte "N") (bytes "'") (byte "'") (bytes "'\\") s)
     (or-takes 1 s _ _ (quote (byte "E") (bytes "'") (byte "'") (bytes "'\\") s) (hex-takes s))))
 
-string-takes : (dialect : Dialect) (s : List ℕ) → Takes 1 s (stringPart dialect s)
-unfolding stringPart
+string-takes : (dialect : Dialect) (s : List ℕ) → Takes 1 s (stringTaken dialect s)
+unfolding stringTaken
 string-takes dialect s =
     or-takes 1 s _ _ (quote (byte "`") [] (byte "`") (bytes "`") s) (or-takes 1 s _ _ (in-sql-server dialect s) (quoted-takes s))
 
 pub string-sized : (dialect : Dialect) (s : List ℕ) → Sized s (getStringToken dialect s)
 unfolding getStringToken
-string-sized dialect s = takes-sized s K.String (stringPart dialect s) (string-takes dialect s)
+string-sized dialect s = takes-sized s K.String (stringTaken dialect s) (string-takes dialect s)
 
 -- ---- parentheses
 
@@ -266,7 +266,7 @@ close-paren-sized dialect s =
 
 -- ---- numbers
 
-decimal-some : (then : Part) (s : List ℕ) → Least 1 (decimalNumber then s)
+decimal-some : (then : Taker) (s : List ℕ) → Least 1 (decimalNumber then s)
 unfolding decimalNumber
 decimal-some then s = digit1-some (spelled typed (bytes ".") (digit0 then)) s
 
@@ -285,8 +285,8 @@ number-sized s =
 
 -- ---- placeholders
 
--- a mark, and a part behind it
-mark-takes : (test : ℕ → Bool) (then : Part) → Inside then → (s : List ℕ) → Takes 1 s (one test then s)
+-- a mark, and a taker behind it
+mark-takes : (test : ℕ → Bool) (then : Taker) → Inside then → (s : List ℕ) → Takes 1 s (one test then s)
 mark-takes test then h s = record { least = one-some test then s; inside = one-inside test then h s }
 
 number-fits : (n i : ℕ) → cond (ltb n (2 ^ 64)) (Is n) Overflows ≡ Is i → i < 2 ^ 64
@@ -307,26 +307,26 @@ indexed-key s n h = go (leb n 1) (startsWith (byte "$") s) (numberOf (take (n - 
     go false f Overflows e = tt
 
 pub indexed-sized : (s : List ℕ) → Sized s (getIndexedPlaceholderToken s)
-unfolding getIndexedPlaceholderToken indexedPart
+unfolding getIndexedPlaceholderToken indexedTaken
 indexed-sized s = go _ (or-takes 1 s _ _ (mark-takes (contains (bytes "?$")) (digit1 done) digits-inside s) (spelled-takes typed (byte "?") [] done done-inside s))
   where
     go : (t : Taken) → Takes 1 s t → Sized s (keyed (indexedKey s) t)
     go t h = keyed-sized s (indexedKey s) 0 t (indexed-key s) (h .least) (least-any t) (h .inside)
 
 pub ident-sized : (s : List ℕ) → Sized s (getIdentNamedPlaceholderToken s)
-unfolding getIdentNamedPlaceholderToken identPart
+unfolding getIdentNamedPlaceholderToken identTaken
 ident-sized s =
     let h = mark-takes (contains (bytes "@:$")) placeholderName name-inside s in
     keyed-sized s (λ n. Named 1 (n - 1)) 1 (one (contains (bytes "@:$")) placeholderName s) (λ n k. omega arith) (h .least) (h .least) (h .inside)
 
 pub braced-sized : (s : List ℕ) → Sized s (getBracedNamedPlaceholderToken s)
-unfolding getBracedNamedPlaceholderToken bracedPart
+unfolding getBracedNamedPlaceholderToken bracedTaken
 braced-sized s =
     let h = spelled-takes typed (byte "{") [] bracedText braced-inside s in
     keyed-sized s (λ n. Named 1 (n - 2)) 1 (spelled typed (bytes "{") bracedText s) (λ n k. omega arith) (h .least) (h .least) (h .inside)
 
-placeholder-string-some : (dialect : Dialect) (s : List ℕ) → Least 1 (placeholderStringPart dialect s)
-unfolding placeholderStringPart placeholderQuotedPart
+placeholder-string-some : (dialect : Dialect) (s : List ℕ) → Least 1 (placeholderStringTaken dialect s)
+unfolding placeholderStringTaken placeholderQuotedTaken
 placeholder-string-some dialect s =
     or-takes 1 s _ _ (quote (byte "`") [] (byte "`") (bytes "`") s)
     (or-takes 1 s _ _ (in-sql-server dialect s)
@@ -348,10 +348,10 @@ string-key s n h = go (hasEscape (getD s (n - 1) 0) (take (n - 3) (drop 2 s))) r
     go false e = omega arith
 
 pub string-named-sized : (dialect : Dialect) (s : List ℕ) → Sized s (getStringNamedPlaceholderToken dialect s)
-unfolding getStringNamedPlaceholderToken stringNamedPart
+unfolding getStringNamedPlaceholderToken stringNamedTaken
 string-named-sized dialect s =
-    let h = mark-takes (contains (bytes "@:")) (placeholderStringPart dialect) (placeholder-string-inside dialect) s in
-    keyed-sized s (stringKey s) 2 (one (contains (bytes "@:")) (placeholderStringPart dialect) s) (string-key s) (h .least) (one-least 1 (contains (bytes "@:")) (placeholderStringPart dialect) (placeholder-string-some dialect) s) (h .inside)
+    let h = mark-takes (contains (bytes "@:")) (placeholderStringTaken dialect) (placeholder-string-inside dialect) s in
+    keyed-sized s (stringKey s) 2 (one (contains (bytes "@:")) (placeholderStringTaken dialect) s) (string-key s) (h .least) (one-least 1 (contains (bytes "@:")) (placeholderStringTaken dialect) (placeholder-string-some dialect) s) (h .inside)
 
 module _ (s : List ℕ) (a b c d : Recognised) where
   four-sized : Sized s a → Sized s b → Sized s c → Sized s d → Sized s (alt a (alt b (alt c d)))

@@ -28,8 +28,8 @@ use Rattle.recognisers.specs.declared.Recognised.the-variants.{Token, No
 use Rattle.recognisers.specs.Text.{bytes}
 use Rattle.recognisers.specs.Pieces.{piece}
 use Rattle.recognisers.specs.Taking.{taken, more, done, one, typed, spelled, digit1, contains, startsAmong, startsWith}
-use Rattle.recognisers.specs.Strings.{closedBy, inSQLServer, placeholderQuotedPart, placeholderStringPart}
-use Rattle.recognisers.specs.Placeholder.{numberFrom, numberOf, indexed, indexedKey, indexedPart, placeholderName, identPart, throughBrace, bracedText, bracedPart, hasEscape, stringKey, stringNamedPart, getIndexedPlaceholderToken, getIdentNamedPlaceholderToken, getBracedNamedPlaceholderToken, getStringNamedPlaceholderToken}
+use Rattle.recognisers.specs.Strings.{closedBy, inSQLServer, placeholderQuotedTaken, placeholderStringTaken}
+use Rattle.recognisers.specs.Placeholder.{numberFrom, numberOf, indexed, indexedKey, indexedTaken, placeholderName, identTaken, throughBrace, bracedText, bracedTaken, hasEscape, stringKey, stringNamedTaken, getIndexedPlaceholderToken, getIdentNamedPlaceholderToken, getBracedNamedPlaceholderToken, getStringNamedPlaceholderToken}
 use Rattle.recognisers.proofs.TakenInside.{Inside, or-inside, done-inside, one-inside, spelled-inside, cond-inside, fits-more}
 use Rattle.recognisers.proofs.Digits.{digits-inside, marked-fits, marked-then, marked-not}
 use Rattle.recognisers.proofs.CommentLoops.{PassedAt, passed-more}
@@ -92,8 +92,8 @@ pub name-inside : Inside placeholderName
 unfolding placeholderName inClass
 name-inside s = cond-inside (leb 1 (run isPlaceholderNameCharacter 0 s)) (Bytes (run isPlaceholderNameCharacter 0 s)) (length s) (run-inside PlaceholderName 0 s)
 
-indexed-inside : Inside indexedPart
-unfolding indexedPart
+indexed-inside : Inside indexedTaken
+unfolding indexedTaken
 indexed-inside s =
     or-inside (one (contains (bytes "?$")) (digit1 done) s) (spelled typed (bytes "?") done s) (length s)
     (one-inside (contains (bytes "?$")) (digit1 done) digits-inside s)
@@ -104,8 +104,8 @@ brackets-inside Generic s = zero-le
 brackets-inside PostgreSql s = zero-le
 brackets-inside SQLServer s = spelled-inside typed (bytes "[") (closedBy 93 (bytes "]")) (quoted-inside 93 (bytes "]")) s
 
-pub placeholder-string-inside : (dialect : Dialect) → Inside (placeholderStringPart dialect)
-unfolding placeholderStringPart placeholderQuotedPart
+pub placeholder-string-inside : (dialect : Dialect) → Inside (placeholderStringTaken dialect)
+unfolding placeholderStringTaken placeholderQuotedTaken
 placeholder-string-inside dialect s =
     or-inside (spelled typed (bytes "`") (closedBy 96 (bytes "`")) s) _ (length s)
     (spelled-inside typed (bytes "`") (closedBy 96 (bytes "`")) (quoted-inside 96 (bytes "`")) s)
@@ -117,22 +117,22 @@ placeholder-string-inside dialect s =
     (spelled-inside typed (bytes "'") (closedBy 39 (bytes "\\")) (quoted-inside 39 (bytes "\\")) s)
     (spelled-inside typed (bytes "N'") (closedBy 39 (bytes "\\")) (quoted-inside 39 (bytes "\\")) s))))
 
-string-named-inside : (dialect : Dialect) → Inside (stringNamedPart dialect)
-unfolding stringNamedPart
-string-named-inside dialect s = one-inside (contains (bytes "@:")) (placeholderStringPart dialect) (placeholder-string-inside dialect) s
+string-named-inside : (dialect : Dialect) → Inside (stringNamedTaken dialect)
+unfolding stringNamedTaken
+string-named-inside dialect s = one-inside (contains (bytes "@:")) (placeholderStringTaken dialect) (placeholder-string-inside dialect) s
 
 -- n bytes were taken, so the rest has them
 module _ (s : List ℕ) (t : Taken) (n : ℕ) where
-  pub indexed-fits : t ≡ indexedPart s → t ≡ Bytes n → n ≤ length s
+  pub indexed-fits : t ≡ indexedTaken s → t ≡ Bytes n → n ≤ length s
   indexed-fits e f = let h : taken t ≤ length s = rw e (indexed-inside s) in rw f at h
 
-  pub string-named-fits : (dialect : Dialect) → t ≡ stringNamedPart dialect s → t ≡ Bytes n → n ≤ length s
+  pub string-named-fits : (dialect : Dialect) → t ≡ stringNamedTaken dialect s → t ≡ Bytes n → n ≤ length s
   string-named-fits dialect e f = let h : taken t ≤ length s = rw e (string-named-inside dialect s) in rw f at h
 
 -- ---- a token of what was taken
 
 module _ (s : List ℕ) (t : Taken) where
-  module _ (e : t ≡ indexedPart s) where
+  module _ (e : t ≡ indexedTaken s) where
     pub indexed-token : (n : ℕ) (k : Key) → t ≡ Bytes n → k ≡ indexedKey s n → Token (piece Placeholder n k) ≡ getIndexedPlaceholderToken s
     unfolding getIndexedPlaceholderToken
     indexed-token n k f g = rw (← e, f, g)
@@ -141,7 +141,7 @@ module _ (s : List ℕ) (t : Taken) where
     unfolding getIndexedPlaceholderToken
     indexed-nothing f = rw (← e, f)
 
-  module _ (e : t ≡ identPart s) where
+  module _ (e : t ≡ identTaken s) where
     pub ident-token : (n m : ℕ) → t ≡ Bytes n → m ≡ n - 1 → Token (piece Placeholder n (Named 1 m)) ≡ getIdentNamedPlaceholderToken s
     unfolding getIdentNamedPlaceholderToken
     ident-token n m f g = rw (← e, f, g)
@@ -150,7 +150,7 @@ module _ (s : List ℕ) (t : Taken) where
     unfolding getIdentNamedPlaceholderToken
     ident-nothing f = rw (← e, f)
 
-  module _ (e : t ≡ bracedPart s) where
+  module _ (e : t ≡ bracedTaken s) where
     pub braced-token : (n m : ℕ) → t ≡ Bytes n → m ≡ n - 2 → Token (piece Placeholder n (Named 1 m)) ≡ getBracedNamedPlaceholderToken s
     unfolding getBracedNamedPlaceholderToken
     braced-token n m f g = rw (← e, f, g)
@@ -159,7 +159,7 @@ module _ (s : List ℕ) (t : Taken) where
     unfolding getBracedNamedPlaceholderToken
     braced-nothing f = rw (← e, f)
 
-  module _ (dialect : Dialect) (e : t ≡ stringNamedPart dialect s) where
+  module _ (dialect : Dialect) (e : t ≡ stringNamedTaken dialect s) where
     pub string-token : (n : ℕ) (k : Key) → t ≡ Bytes n → k ≡ stringKey s n → Token (piece Placeholder n k) ≡ getStringNamedPlaceholderToken dialect s
     unfolding getStringNamedPlaceholderToken
     string-token n k f g = rw (← e, f, g)
@@ -248,15 +248,15 @@ module _ (s : List ℕ) (n : ℕ) where
 -- ---- the string behind the mark
 
 module _ (dialect : Dialect) (m s : List ℕ) (r : Bool) (e : r ≡ startsAmong m s) where
-  pub marked-string-then : (t q : Taken) → r ≡ true → t ≡ placeholderStringPart dialect (take (length s - 1) (drop 1 s)) → q ≡ more 1 t → q ≡ one (contains m) (placeholderStringPart dialect) s
-  marked-string-then = marked-then (placeholderStringPart dialect) m s r e
+  pub marked-string-then : (t q : Taken) → r ≡ true → t ≡ placeholderStringTaken dialect (take (length s - 1) (drop 1 s)) → q ≡ more 1 t → q ≡ one (contains m) (placeholderStringTaken dialect) s
+  marked-string-then = marked-then (placeholderStringTaken dialect) m s r e
 
-  pub marked-string-not : r ≡ false → Fails ≡ one (contains m) (placeholderStringPart dialect) s
-  marked-string-not = marked-not (placeholderStringPart dialect) m s r e
+  pub marked-string-not : r ≡ false → Fails ≡ one (contains m) (placeholderStringTaken dialect) s
+  marked-string-not = marked-not (placeholderStringTaken dialect) m s r e
 
-  pub marked-string-fits : (t : Taken) → r ≡ true → t ≡ placeholderStringPart dialect (take (length s - 1) (drop 1 s)) → length s < 2 ^ 64 → 1 + taken t < 2 ^ 64
+  pub marked-string-fits : (t : Taken) → r ≡ true → t ≡ placeholderStringTaken dialect (take (length s - 1) (drop 1 s)) → length s < 2 ^ 64 → 1 + taken t < 2 ^ 64
   marked-string-fits t y q f =
-      fits-more (placeholderStringPart dialect) (placeholder-string-inside dialect) s 1 t q (marked-fits (placeholderStringPart dialect) m s r e y) f
+      fits-more (placeholderStringTaken dialect) (placeholder-string-inside dialect) s 1 t q (marked-fits (placeholderStringTaken dialect) m s r e y) f
 
 pub brace-first : (s : List ℕ) (r : Bool) → r ≡ startsWith 125 (drop 0 s) → r ≡ true → Fails ≡ bracedText s
 unfolding bracedText

@@ -14,7 +14,7 @@ use borrow.Author.Tests.{eq-eqb, ne-eqb}
 use Rattle.unicode.proofs.Rests.{part-end}
 use Rattle.recognisers.specs.declared.Taken.{Taken}
 use Rattle.recognisers.specs.declared.Taken.the-variants.{Bytes, Fails}
-use Rattle.recognisers.specs.Taking.{Part, more, done, one, spelled, isSpelled, typed}
+use Rattle.recognisers.specs.Taking.{Taker, more, done, one, spelled, isSpelled, typed}
 
 pub more-zero : (t : Taken) → more 0 t ≡ t
 more-zero (Bytes n) = rw (zero-add n)
@@ -68,7 +68,7 @@ module _ (form : ℕ → ℕ) where
 
   -- ---- a word and what follows
 
-  pub spelled-is : (w s : List ℕ) (then : Part) → spelled form w then s ≡ cond (isSpelled form w s) (more (length w) (then (drop (length w) s))) Fails
+  pub spelled-is : (w s : List ℕ) (then : Taker) → spelled form w then s ≡ cond (isSpelled form w s) (more (length w) (then (drop (length w) s))) Fails
   unfolding spelled isSpelled one
   spelled-is [] s then = sym (more-zero (then s))
   spelled-is (x ∷ w) [] then = refl
@@ -79,7 +79,7 @@ module _ (form : ℕ → ℕ) where
       go true false = refl
       go false u = refl
 
-  module _ (then : Part) (w s : List ℕ) (r : Bool) (e : r ≡ isSpelled form w s) where
+  module _ (then : Taker) (w s : List ℕ) (r : Bool) (e : r ≡ isSpelled form w s) where
     pub word-fits : r ≡ true → length w ≤ length s
     word-fits t = spelled-fits w s (sym e ∙ t)
 

@@ -7,13 +7,13 @@ use Rattle.recognisers.specs.declared.Taken.the-variants.{Fails}
 use Rattle.recognisers.specs.declared.TokenKind.the-variants.{OpenParen, CloseParen}
 use Rattle.recognisers.specs.declared.Recognised.{Recognised}
 use Rattle.recognisers.specs.Text.{bytes}
-use Rattle.recognisers.specs.Taking.{Part, or, done, literal, caseless, blanks, endOfWord}
+use Rattle.recognisers.specs.Taking.{Taker, or, done, literal, caseless, blanks, endOfWord}
 use Rattle.recognisers.specs.Pieces.{tokenOf}
 
-abbrev pub inPostgreSql : Dialect → Part → Part
-inPostgreSql Generic part s = Fails
-inPostgreSql PostgreSql part s = part s
-inPostgreSql SQLServer part s = Fails
+abbrev pub inPostgreSql : Dialect → Taker → Taker
+inPostgreSql Generic taker s = Fails
+inPostgreSql PostgreSql taker s = taker s
+inPostgreSql SQLServer taker s = Fails
 
 unfoldable pub getOpenParenToken : Dialect → List ℕ → Recognised
 getOpenParenToken dialect s =

@@ -15,8 +15,8 @@ use Rattle.recognisers.specs.declared.TokenKind.the-variants.{Placeholde
 use Rattle.recognisers.specs.declared.Recognised.{Recognised}
 use Rattle.recognisers.specs.declared.Recognised.the-variants.{Token, Nothing}
 use Rattle.recognisers.specs.Text.{byte, bytes}
-use Rattle.recognisers.specs.Taking.{Part, more, or, done, one, literal, digit1, atLeast, contains, startsWith}
-use Rattle.recognisers.specs.Strings.{placeholderStringPart}
+use Rattle.recognisers.specs.Taking.{Taker, more, or, done, one, literal, digit1, atLeast, contains, startsWith}
+use Rattle.recognisers.specs.Strings.{placeholderStringTaken}
 use Rattle.recognisers.specs.Pieces.{piece, alt}
 use Rattle.unicode.specs.Classes.{isPlaceholderNameCharacter}
 use Rattle.unicode.specs.Runs.{run}
@@ -43,36 +43,36 @@ indexed fromOne Overflows = None
 unfoldable pub indexedKey : List ℕ → ℕ → Key
 indexedKey s n = cond (leb n 1) None (indexed (startsWith (byte "$") s) (numberOf (take (n - 1) (drop 1 s))))
 
-unfoldable pub indexedPart : Part
-indexedPart s = or (one (contains (bytes "?$")) (digit1 done) s) (literal (bytes "?") done s)
+unfoldable pub indexedTaken : Taker
+indexedTaken s = or (one (contains (bytes "?$")) (digit1 done) s) (literal (bytes "?") done s)
 
 unfoldable pub getIndexedPlaceholderToken : List ℕ → Recognised
-getIndexedPlaceholderToken s = keyed (indexedKey s) (indexedPart s)
+getIndexedPlaceholderToken s = keyed (indexedKey s) (indexedTaken s)
 
 -- the characters of a placeholder's name, one at least
-unfoldable pub placeholderName : Part
+unfoldable pub placeholderName : Taker
 placeholderName s = atLeast 1 (run isPlaceholderNameCharacter 0 s)
 
-unfoldable pub identPart : Part
-identPart s = one (contains (bytes "@:$")) placeholderName s
+unfoldable pub identTaken : Taker
+identTaken s = one (contains (bytes "@:$")) placeholderName s
 
 unfoldable pub getIdentNamedPlaceholderToken : List ℕ → Recognised
-getIdentNamedPlaceholderToken s = keyed (λ n. Named 1 (n - 1)) (identPart s)
+getIdentNamedPlaceholderToken s = keyed (λ n. Named 1 (n - 1)) (identTaken s)
 
 -- through the first `}`
-unfoldable pub throughBrace : Part
+unfoldable pub throughBrace : Taker
 throughBrace [] = Fails
 throughBrace (b ∷ s) = cond (eqb b (byte "}")) (Bytes 1) (more 1 (throughBrace s))
 
 -- what stands between the braces must not be empty
-unfoldable pub bracedText : Part
+unfoldable pub bracedText : Taker
 bracedText s = cond (startsWith (byte "}") s) Fails (throughBrace s)
 
-unfoldable pub bracedPart : Part
-bracedPart s = literal (bytes "{") bracedText s
+unfoldable pub bracedTaken : Taker
+bracedTaken s = literal (bytes "{") bracedText s
 
 unfoldable pub getBracedNamedPlaceholderToken : List ℕ → Recognised
-getBracedNamedPlaceholderToken s = keyed (λ n. Named 1 (n - 2)) (bracedPart s)
+getBracedNamedPlaceholderToken s = keyed (λ n. Named 1 (n - 2)) (bracedTaken s)
 
 -- a backslash directly before the quote
 unfoldable pub hasEscape : ℕ → List ℕ → Bool
@@ -84,11 +84,11 @@ hasEscape quote (b ∷ s) = (eqb b (byte "\\") && startsWith quote s) || hasEsca
 unfoldable pub stringKey : List ℕ → ℕ → Key
 stringKey s n = cond (hasEscape (getD s (n - 1) 0) (take (n - 3) (drop 2 s))) (Escaped 2 (n - 3)) (Named 2 (n - 3))
 
-unfoldable pub stringNamedPart : Dialect → Part
-stringNamedPart dialect s = one (contains (bytes "@:")) (placeholderStringPart dialect) s
+unfoldable pub stringNamedTaken : Dialect → Taker
+stringNamedTaken dialect s = one (contains (bytes "@:")) (placeholderStringTaken dialect) s
 
 unfoldable pub getStringNamedPlaceholderToken : Dialect → List ℕ → Recognised
-getStringNamedPlaceholderToken dialect s = keyed (stringKey s) (stringNamedPart dialect s)
+getStringNamedPlaceholderToken dialect s = keyed (stringKey s) (stringNamedTaken dialect s)
 
 -- the order of the alternatives goes by the setting
 unfoldable pub getPlaceholderToken : Bool → Dialect → List ℕ → Recognised

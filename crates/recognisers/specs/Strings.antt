@@ -9,13 +9,13 @@ use Rattle.recognisers.specs.declared.Taken.the-variants.{Bytes, Fails}
 use Rattle.recognisers.specs.declared.TokenKind.the-variants.{String}
 use Rattle.recognisers.specs.declared.Recognised.{Recognised}
 use Rattle.recognisers.specs.Text.{byte, bytes}
-use Rattle.recognisers.specs.Taking.{Part, more, or, literal, contains, startsWith}
+use Rattle.recognisers.specs.Taking.{Taker, more, or, literal, contains, startsWith}
 use Rattle.recognisers.specs.Pieces.{tokenOf}
 
 -- How many bytes stand before the first `desired` byte that is neither escaped nor an escape; it fails where there is none.
 -- (The Rust then takes the rest, and the `any` behind it fails.) An escape and the `desired` byte behind it are passed
 -- together: `behind` says that the next byte is such a one.
-unfoldable pub takeTillEscaping : ℕ → List ℕ → Bool → Part
+unfoldable pub takeTillEscaping : ℕ → List ℕ → Bool → Taker
 takeTillEscaping desired escapes behind [] = Fails
 takeTillEscaping desired escapes true (b ∷ s) = more 1 (takeTillEscaping desired escapes false s)
 takeTillEscaping desired escapes false (b ∷ s) =
@@ -23,42 +23,42 @@ takeTillEscaping desired escapes false (b ∷ s) =
     (more 1 (takeTillEscaping desired escapes (contains escapes b && startsWith desired s) s))
 
 -- the text up to its closing quote, and that
-unfoldable pub closedBy : ℕ → List ℕ → Part
+unfoldable pub closedBy : ℕ → List ℕ → Taker
 closedBy desired escapes s = more 1 (takeTillEscaping desired escapes false s)
 
-abbrev pub inSQLServer : Dialect → Part → Part
-inSQLServer Generic part s = Fails
-inSQLServer PostgreSql part s = Fails
-inSQLServer SQLServer part s = part s
+abbrev pub inSQLServer : Dialect → Taker → Taker
+inSQLServer Generic taker s = Fails
+inSQLServer PostgreSql taker s = Fails
+inSQLServer SQLServer taker s = taker s
 
 -- hexadecimal strings know no escapes
-unfoldable pub hexPart : Part
-hexPart s = or (literal (bytes "x'") (closedBy (byte "'") []) s) (literal (bytes "X'") (closedBy (byte "'") []) s)
+unfoldable pub hexTaken : Taker
+hexTaken s = or (literal (bytes "x'") (closedBy (byte "'") []) s) (literal (bytes "X'") (closedBy (byte "'") []) s)
 
 -- strings in double or single quotes, national ones, those with an E before them
-unfoldable pub quotedPart : Part
-quotedPart s =
+unfoldable pub quotedTaken : Taker
+quotedTaken s =
     or (literal (bytes "\"") (closedBy (byte "\"") (bytes "\"\\")) s)
     (or (literal (bytes "'") (closedBy (byte "'") (bytes "'\\")) s)
     (or (literal (bytes "N'") (closedBy (byte "'") (bytes "'\\")) s)
-    (or (literal (bytes "E'") (closedBy (byte "'") (bytes "'\\")) s) (hexPart s))))
+    (or (literal (bytes "E'") (closedBy (byte "'") (bytes "'\\")) s) (hexTaken s))))
 
 -- the eight openers
-unfoldable pub stringPart : Dialect → Part
-stringPart dialect s =
+unfoldable pub stringTaken : Dialect → Taker
+stringTaken dialect s =
     or (literal (bytes "`") (closedBy (byte "`") (bytes "`")) s)
-    (or (inSQLServer dialect (literal (bytes "[") (closedBy (byte "]") (bytes "]"))) s) (quotedPart s))
+    (or (inSQLServer dialect (literal (bytes "[") (closedBy (byte "]") (bytes "]"))) s) (quotedTaken s))
 
 unfoldable pub getStringToken : Dialect → List ℕ → Recognised
-getStringToken dialect s = tokenOf String (stringPart dialect s)
+getStringToken dialect s = tokenOf String (stringTaken dialect s)
 
 -- like the above, with other escapes
-unfoldable pub placeholderQuotedPart : Part
-placeholderQuotedPart s =
+unfoldable pub placeholderQuotedTaken : Taker
+placeholderQuotedTaken s =
     or (literal (bytes "\"") (closedBy (byte "\"") (bytes "\\")) s)
     (or (literal (bytes "'") (closedBy (byte "'") (bytes "\\")) s) (literal (bytes "N'") (closedBy (byte "'") (bytes "\\")) s))
 
-unfoldable pub placeholderStringPart : Dialect → Part
-placeholderStringPart dialect s =
+unfoldable pub placeholderStringTaken : Dialect → Taker
+placeholderStringTaken dialect s =
     or (literal (bytes "`") (closedBy (byte "`") (bytes "`")) s)
-    (or (inSQLServer dialect (literal (bytes "[") (closedBy (byte "]") (bytes "]"))) s) (placeholderQuotedPart s))
+    (or (inSQLServer dialect (literal (bytes "[") (closedBy (byte "]") (bytes "]"))) s) (placeholderQuotedTaken s))

@@ -1,5 +1,5 @@
--- What the recognisers are made of. Each part says how many bytes it takes from the start of the rest, or fails; `then` is
--- the part that follows it.
+-- What the recognisers are made of. Each taker says how many bytes it takes from the start of the rest, or fails; `then` is
+-- the taker that follows it.
 use Prim.Native.Nat.{ℕ, suc, _+_, _-_}
 use mathlib.Core.Bool.{Bool, true, false, cond, _&&_, _||_}
 use mathlib.Core.List.{List, [], _∷_}
@@ -12,8 +12,8 @@ use Rattle.unicode.specs.Classes.{isWhitespace, isWordCharacter}
 use Rattle.unicode.specs.Character.{codePoint}
 use Rattle.unicode.specs.Runs.{run}
 
-abbrev pub Part : Type 0
-Part = List ℕ → Taken
+abbrev pub Taker : Type 0
+Taker = List ℕ → Taken
 
 -- n bytes more
 abbrev pub more : ℕ → Taken → Taken
@@ -26,16 +26,16 @@ or (Bytes n) other = Bytes n
 or Fails other = other
 
 -- nothing more
-abbrev pub done : Part
+abbrev pub done : Taker
 done s = Bytes 0
 
 -- one byte that passes the test
-unfoldable pub one : (ℕ → Bool) → Part → Part
+unfoldable pub one : (ℕ → Bool) → Taker → Taker
 one test then [] = Fails
 one test then (b ∷ s) = cond (test b) (more 1 (then s)) Fails
 
 -- these bytes, in a form of the text's
-unfoldable pub spelled : (ℕ → ℕ) → List ℕ → Part → Part
+unfoldable pub spelled : (ℕ → ℕ) → List ℕ → Taker → Taker
 spelled form [] then s = then s
 spelled form (w ∷ word) then s = one (λ b. eqb (form b) w) (spelled form word then) s
 
@@ -53,19 +53,19 @@ unfoldable pub capital : ℕ → ℕ
 capital b = cond (within 0x61 0x7A b) (b - 0x20) b
 
 -- these bytes as typed
-abbrev pub literal : List ℕ → Part → Part
+abbrev pub literal : List ℕ → Taker → Taker
 literal word then = spelled typed word then
 
 -- these capitals, in either case
-abbrev pub caseless : List ℕ → Part → Part
+abbrev pub caseless : List ℕ → Taker → Taker
 caseless word then = spelled capital word then
 
 -- at least one whitespace character, and all that follow
-unfoldable pub blanks : Part → Part
+unfoldable pub blanks : Taker → Taker
 blanks then s = cond (isWhitespace (codePoint s)) (more (run isWhitespace 0 s) (then (drop (run isWhitespace 0 s) s))) Fails
 
 -- no word character comes next: the end of the text has code point 0, which is none
-unfoldable pub endOfWord : Part
+unfoldable pub endOfWord : Taker
 endOfWord s = cond (isWordCharacter (codePoint s)) Fails (Bytes 0)
 
 abbrev pub isDigit : ℕ → Bool
@@ -77,11 +77,11 @@ count test [] = 0
 count test (b ∷ s) = cond (test b) (suc (count test s)) 0
 
 -- ASCII digits, one at least, and all that follow
-unfoldable pub digit1 : Part → Part
+unfoldable pub digit1 : Taker → Taker
 digit1 then s = cond (leb 1 (count isDigit s)) (more (count isDigit s) (then (drop (count isDigit s) s))) Fails
 
 -- ASCII digits, or none
-unfoldable pub digit0 : Part → Part
+unfoldable pub digit0 : Taker → Taker
 digit0 then s = more (count isDigit s) (then (drop (count isDigit s) s))
 
 -- so many bytes, where there are that many at least

@@ -45,7 +45,7 @@ fn exponent_after(rest: &[u8], mark: &[u8]) -> Taken
     Taken::Fails
 }
 
-fn exponent_part(rest: &[u8]) -> Taken
+fn exponent_taken(rest: &[u8]) -> Taken
     ensures { λ r. ⌜ r ≡ exponent (now (rest .entry)) ⌝ }
 {
     exponent_after(rest, b"e")
@@ -56,7 +56,7 @@ fn fraction_exponent(rest: &[u8]) -> Taken
     ensures { λ r. ⌜ r ≡ digit0 exponent (now (rest .entry)) ⌝ }
 {
     let n = count_digits(rest);
-    n_more(n, exponent_part(&rest[n..]))
+    n_more(n, exponent_taken(&rest[n..]))
 }
 
 // Digits or none.
@@ -114,7 +114,7 @@ fn digits_exponent(rest: &[u8]) -> Taken
     if n == 0 {
         return Taken::Fails;
     }
-    n_more(n, exponent_part(&rest[n..]))
+    n_more(n, exponent_taken(&rest[n..]))
 }
 
 fn scientific_notation(rest: &[u8]) -> Taken

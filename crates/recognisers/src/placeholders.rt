@@ -15,7 +15,7 @@ use crate::scan::n_more;
 use crate::scan::pair_stands_at;
 use crate::scan::stands_at;
 use crate::scan::starts_among;
-use crate::strings::placeholder_string_part;
+use crate::strings::placeholder_string_taken;
 use unicode::Class;
 ghost use mathlib.Core.Path.{_≡_};
 ghost use mathlib.Core.Bool.{true, false};
@@ -23,8 +23,8 @@ ghost use Prim.Native.Nat.{_-_, _≤_};
 ghost use lib.ListN.{length};
 ghost use Rattle.recognisers.specs.Taking.{one, literal, contains};
 ghost use Rattle.recognisers.specs.Pieces.{alt};
-ghost use Rattle.recognisers.specs.Strings.{placeholderStringPart};
-ghost use Rattle.recognisers.specs.Placeholder.{numberOf, indexed, indexedKey, indexedPart, getIndexedPlaceholderToken, placeholderName, identPart, getIdentNamedPlaceholderToken, throughBrace, bracedText, bracedPart, getBracedNamedPlaceholderToken, hasEscape, stringKey, stringNamedPart, getStringNamedPlaceholderToken, getPlaceholderToken};
+ghost use Rattle.recognisers.specs.Strings.{placeholderStringTaken};
+ghost use Rattle.recognisers.specs.Placeholder.{numberOf, indexed, indexedKey, indexedTaken, getIndexedPlaceholderToken, placeholderName, identTaken, getIdentNamedPlaceholderToken, throughBrace, bracedText, bracedTaken, getBracedNamedPlaceholderToken, hasEscape, stringKey, stringNamedTaken, getStringNamedPlaceholderToken, getPlaceholderToken};
 
 fn digit_of(b: u8) -> u64
     ensures { λ r. ⌜ r ≡ b - 48 ⌝ }
@@ -75,8 +75,8 @@ fn indexed_key(rest: &[u8], n: usize) -> Key
     indexed_by(stands_at(rest, 0, b'$'), number_of(&rest[1..n]))
 }
 
-fn indexed_part(rest: &[u8]) -> Taken
-    ensures { λ r. ⌜ r ≡ indexedPart (now (rest .entry)) ⌝ }
+fn indexed_taken(rest: &[u8]) -> Taken
+    ensures { λ r. ⌜ r ≡ indexedTaken (now (rest .entry)) ⌝ }
 {
     first_of(marked_digits(rest, b"?$"), exactly(rest, b"?"))
 }
@@ -84,7 +84,7 @@ fn indexed_part(rest: &[u8]) -> Taken
 pub fn get_indexed_placeholder_token(rest: &[u8]) -> Recognised
     ensures { λ r. ⌜ r ≡ getIndexedPlaceholderToken (now (rest .entry)) ⌝ }
 {
-    let part = indexed_part(rest);
+    let part = indexed_taken(rest);
     match part {
         Taken::Bytes(n) => {
             let key = indexed_key(rest, n);
@@ -120,8 +120,8 @@ fn marked_name(rest: &[u8], marks: &[u8]) -> Taken
     Taken::Fails
 }
 
-fn ident_part(rest: &[u8]) -> Taken
-    ensures { λ r. ⌜ r ≡ identPart (now (rest .entry)) ⌝ }
+fn ident_taken(rest: &[u8]) -> Taken
+    ensures { λ r. ⌜ r ≡ identTaken (now (rest .entry)) ⌝ }
 {
     marked_name(rest, b"@:$")
 }
@@ -129,7 +129,7 @@ fn ident_part(rest: &[u8]) -> Taken
 pub fn get_ident_named_placeholder_token(rest: &[u8]) -> Recognised
     ensures { λ r. ⌜ r ≡ getIdentNamedPlaceholderToken (now (rest .entry)) ⌝ }
 {
-    let part = ident_part(rest);
+    let part = ident_taken(rest);
     match part {
         Taken::Bytes(n) => {
             let len = less(n, 1);
@@ -176,8 +176,8 @@ fn braced_after(rest: &[u8], brace: &[u8]) -> Taken
     Taken::Fails
 }
 
-fn braced_part(rest: &[u8]) -> Taken
-    ensures { λ r. ⌜ r ≡ bracedPart (now (rest .entry)) ⌝ }
+fn braced_taken(rest: &[u8]) -> Taken
+    ensures { λ r. ⌜ r ≡ bracedTaken (now (rest .entry)) ⌝ }
 {
     braced_after(rest, b"{")
 }
@@ -185,7 +185,7 @@ fn braced_part(rest: &[u8]) -> Taken
 pub fn get_braced_named_placeholder_token(rest: &[u8]) -> Recognised
     ensures { λ r. ⌜ r ≡ getBracedNamedPlaceholderToken (now (rest .entry)) ⌝ }
 {
-    let part = braced_part(rest);
+    let part = braced_taken(rest);
     match part {
         Taken::Bytes(n) => {
             let len = less(n, 2);
@@ -236,16 +236,16 @@ fn string_key(rest: &[u8], n: usize) -> Key
 }
 
 fn marked_string(rest: &[u8], marks: &[u8], dialect: Dialect) -> Taken
-    ensures { λ r. ⌜ r ≡ one (contains (now (marks .entry))) (placeholderStringPart dialect) (now (rest .entry)) ⌝ }
+    ensures { λ r. ⌜ r ≡ one (contains (now (marks .entry))) (placeholderStringTaken dialect) (now (rest .entry)) ⌝ }
 {
     if starts_among(rest, marks) {
-        return n_more(1, placeholder_string_part(&rest[1..], dialect));
+        return n_more(1, placeholder_string_taken(&rest[1..], dialect));
     }
     Taken::Fails
 }
 
-fn string_named_part(rest: &[u8], dialect: Dialect) -> Taken
-    ensures { λ r. ⌜ r ≡ stringNamedPart dialect (now (rest .entry)) ⌝ }
+fn string_named_taken(rest: &[u8], dialect: Dialect) -> Taken
+    ensures { λ r. ⌜ r ≡ stringNamedTaken dialect (now (rest .entry)) ⌝ }
 {
     marked_string(rest, b"@:", dialect)
 }
@@ -253,7 +253,7 @@ fn string_named_part(rest: &[u8], dialect: Dialect) -> Taken
 pub fn get_string_named_placeholder_token(rest: &[u8], dialect: Dialect) -> Recognised
     ensures { λ r. ⌜ r ≡ getStringNamedPlaceholderToken dialect (now (rest .entry)) ⌝ }
 {
-    let part = string_named_part(rest, dialect);
+    let part = string_named_taken(rest, dialect);
     match part {
         Taken::Bytes(n) => {
             let key = string_key(rest, n);

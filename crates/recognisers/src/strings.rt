@@ -15,7 +15,7 @@ ghost use Prim.Native.Nat.{_+_, _<_};
 ghost use lib.ListN.{length, drop, getD};
 ghost use Rattle.recognisers.specs.Text.{byte, bytes};
 ghost use Rattle.recognisers.specs.Taking.{or, literal, contains, startsWith};
-ghost use Rattle.recognisers.specs.Strings.{takeTillEscaping, closedBy, inSQLServer, hexPart, quotedPart, stringPart, getStringToken, placeholderQuotedPart, placeholderStringPart};
+ghost use Rattle.recognisers.specs.Strings.{takeTillEscaping, closedBy, inSQLServer, hexTaken, quotedTaken, stringTaken, getStringToken, placeholderQuotedTaken, placeholderStringTaken};
 
 // An escape stands at i, and the desired byte behind it.
 fn escaped_at(rest: &[u8], i: usize, desired: u8, escapes: &[u8]) -> bool
@@ -69,8 +69,8 @@ fn bracketed(rest: &[u8], dialect: Dialect) -> Taken
     }
 }
 
-fn hex_part(rest: &[u8]) -> Taken
-    ensures { λ r. ⌜ r ≡ hexPart (now (rest .entry)) ⌝ }
+fn hex_taken(rest: &[u8]) -> Taken
+    ensures { λ r. ⌜ r ≡ hexTaken (now (rest .entry)) ⌝ }
 {
     first_of(
         quoted(rest, b"x'", b'\'', b""),
@@ -79,50 +79,50 @@ fn hex_part(rest: &[u8]) -> Taken
 }
 
 // National strings, those with an E before them, and hexadecimal ones.
-fn prefixed_part(rest: &[u8]) -> Taken
-    ensures { λ r. ⌜ r ≡ or (literal (bytes "N'") (closedBy (byte "'") (bytes "'\\")) (now (rest .entry))) (or (literal (bytes "E'") (closedBy (byte "'") (bytes "'\\")) (now (rest .entry))) (hexPart (now (rest .entry)))) ⌝ }
+fn prefixed_taken(rest: &[u8]) -> Taken
+    ensures { λ r. ⌜ r ≡ or (literal (bytes "N'") (closedBy (byte "'") (bytes "'\\")) (now (rest .entry))) (or (literal (bytes "E'") (closedBy (byte "'") (bytes "'\\")) (now (rest .entry))) (hexTaken (now (rest .entry)))) ⌝ }
 {
     let national = quoted(rest, b"N'", b'\'', b"'\\");
     let escape = quoted(rest, b"E'", b'\'', b"'\\");
-    first_of(national, first_of(escape, hex_part(rest)))
+    first_of(national, first_of(escape, hex_taken(rest)))
 }
 
-fn quoted_part(rest: &[u8]) -> Taken
-    ensures { λ r. ⌜ r ≡ quotedPart (now (rest .entry)) ⌝ }
+fn quoted_taken(rest: &[u8]) -> Taken
+    ensures { λ r. ⌜ r ≡ quotedTaken (now (rest .entry)) ⌝ }
 {
     let double = quoted(rest, b"\"", b'"', b"\"\\");
     let single = quoted(rest, b"'", b'\'', b"'\\");
-    first_of(double, first_of(single, prefixed_part(rest)))
+    first_of(double, first_of(single, prefixed_taken(rest)))
 }
 
-fn string_part(rest: &[u8], dialect: Dialect) -> Taken
-    ensures { λ r. ⌜ r ≡ stringPart dialect (now (rest .entry)) ⌝ }
+fn string_taken(rest: &[u8], dialect: Dialect) -> Taken
+    ensures { λ r. ⌜ r ≡ stringTaken dialect (now (rest .entry)) ⌝ }
 {
     let tick = quoted(rest, b"`", b'`', b"`");
-    first_of(tick, first_of(bracketed(rest, dialect), quoted_part(rest)))
+    first_of(tick, first_of(bracketed(rest, dialect), quoted_taken(rest)))
 }
 
 pub fn get_string_token(rest: &[u8], dialect: Dialect) -> Recognised
     ensures { λ r. ⌜ r ≡ getStringToken dialect (now (rest .entry)) ⌝ }
 {
-    token_of(TokenKind::String, string_part(rest, dialect))
+    token_of(TokenKind::String, string_taken(rest, dialect))
 }
 
-// Like `quoted_part`, with other escapes.
-fn placeholder_quoted_part(rest: &[u8]) -> Taken
-    ensures { λ r. ⌜ r ≡ placeholderQuotedPart (now (rest .entry)) ⌝ }
+// Like `quoted_taken`, with other escapes.
+fn placeholder_quoted_taken(rest: &[u8]) -> Taken
+    ensures { λ r. ⌜ r ≡ placeholderQuotedTaken (now (rest .entry)) ⌝ }
 {
     let double = quoted(rest, b"\"", b'"', b"\\");
     let single = quoted(rest, b"'", b'\'', b"\\");
     first_of(double, first_of(single, quoted(rest, b"N'", b'\'', b"\\")))
 }
 
-pub fn placeholder_string_part(rest: &[u8], dialect: Dialect) -> Taken
-    ensures { λ r. ⌜ r ≡ placeholderStringPart dialect (now (rest .entry)) ⌝ }
+pub fn placeholder_string_taken(rest: &[u8], dialect: Dialect) -> Taken
+    ensures { λ r. ⌜ r ≡ placeholderStringTaken dialect (now (rest .entry)) ⌝ }
 {
     let tick = quoted(rest, b"`", b'`', b"`");
     first_of(
         tick,
-        first_of(bracketed(rest, dialect), placeholder_quoted_part(rest)),
+        first_of(bracketed(rest, dialect), placeholder_quoted_taken(rest)),
     )
 }

@@ -14,7 +14,7 @@ use Rattle.recognisers.specs.declared.TokenKind.the-variants as K
 use Rattle.recognisers.specs.declared.Recognised.{Recognised}
 use Rattle.recognisers.specs.declared.Recognised.the-variants.{Nothing}
 use Rattle.recognisers.specs.Text.{bytes}
-use Rattle.recognisers.specs.Taking.{Part, done, one, capital, blanks, endOfWord}
+use Rattle.recognisers.specs.Taking.{Taker, done, one, capital, blanks, endOfWord}
 use Rattle.recognisers.specs.Pieces.{tokenOf}
 use Rattle.reserved.specs.declared.TopLevel.{TopLevel}
 use Rattle.reserved.specs.Phrases.{walk, after, optional, Phrase, phrase, phraseIfExists, phraseEnd, firstPhrase, each}
@@ -28,7 +28,7 @@ use Rattle.reserved.specs.Reserved.{topLevelToken, newlineToken, getTopL
 use Rattle.recognisers.proofs.PieceBoundaries.{Leaves, Cuts, or-leaves, more-leaves, fails-leaves, one-cuts, capital-keeps, allAscii, done-cuts, end-of-word-cuts, blanks-cuts, Bounded, alt-bounded, token-bounded}
 use Rattle.reserved.proofs.PhraseWalk.{wordsOf}
 
-walk-cuts : (words : List ℕ) → allAscii words ≡ true → (then : Part) → Cuts then → Cuts (walk words then)
+walk-cuts : (words : List ℕ) → allAscii words ≡ true → (then : Taker) → Cuts then → Cuts (walk words then)
 unfolding walk
 walk-cuts [] a then h s w = h s w
 walk-cuts (p ∷ words) a then h s w =
@@ -39,7 +39,7 @@ walk-cuts (p ∷ words) a then h s w =
     go true l rest = blanks-cuts (walk words then) rest s w
     go false l rest = one-cuts (λ b. eqb (capital b) p) (λ c e. capital-keeps c p (ltb-true p 0x80 l) e) (walk words then) rest s w
 
-optional-cuts : (words : List ℕ) → allAscii words ≡ true → (then : Part) → Cuts then → Cuts (optional words then)
+optional-cuts : (words : List ℕ) → allAscii words ≡ true → (then : Taker) → Cuts then → Cuts (optional words then)
 unfolding optional
 optional-cuts words a then h s w = go (walk words done s) (walk-cuts words a done done-cuts s w)
   where

@@ -14,7 +14,7 @@ use Rattle.recognisers.specs.declared.TokenKind.the-variants as K
 use Rattle.recognisers.specs.declared.Recognised.{Recognised}
 use Rattle.recognisers.specs.declared.Recognised.the-variants.{Nothing}
 use Rattle.recognisers.specs.Text.{byte, bytes}
-use Rattle.recognisers.specs.Taking.{Part, one, typed, capital, isSpelled, blanks, endOfWord}
+use Rattle.recognisers.specs.Taking.{Taker, one, typed, capital, isSpelled, blanks, endOfWord}
 use Rattle.recognisers.specs.Pieces.{tokenOf, alt}
 use Rattle.recognisers.proofs.Spelling.{spelled-fits}
 use Rattle.recognisers.proofs.TakenInside.{Inside, end-of-word-inside}
@@ -40,7 +40,7 @@ abbrev allBegin : List Phrase → Bool
 allBegin [] = true
 allBegin (p ∷ phrases) = begins (wordsOf p) && allBegin phrases
 
-walk-some : (words : List ℕ) (then : Part) → begins words ≡ true → (s : List ℕ) → Least 1 (walk words then s)
+walk-some : (words : List ℕ) (then : Taker) → begins words ≡ true → (s : List ℕ) → Least 1 (walk words then s)
 unfolding walk
 walk-some [] then e s = absurd (false≢true e)
 walk-some (p ∷ words) then e s = go (eqb p 32) e
@@ -49,7 +49,7 @@ walk-some (p ∷ words) then e s = go (eqb p 32) e
     go true q = absurd (false≢true q)
     go false q = one-some (λ b. eqb (capital b) p) (walk words then) s
 
-walk-takes : (words : List ℕ) (then : Part) → Inside then → begins words ≡ true → (s : List ℕ) → Takes 1 s (walk words then s)
+walk-takes : (words : List ℕ) (then : Taker) → Inside then → begins words ≡ true → (s : List ℕ) → Takes 1 s (walk words then s)
 walk-takes words then h e s = record { least = walk-some words then e s; inside = walk-inside words then h s }
 
 phrase-takes : (p : Phrase) → begins (wordsOf p) ≡ true → (s : List ℕ) → Takes 1 s (phraseEnd p s)

@@ -19,7 +19,7 @@ use Rattle.unicode.specs.Runs.{inClass, run}
 use Rattle.unicode.specs.declared.Class.the-variants.{Whitespace}
 use Rattle.recognisers.specs.declared.Taken.{Taken}
 use Rattle.recognisers.specs.declared.Taken.the-variants.{Bytes, Fails}
-use Rattle.recognisers.specs.Taking.{Part, taken, more, done, one, capital, blanks, endOfWord}
+use Rattle.recognisers.specs.Taking.{Taker, taken, more, done, one, capital, blanks, endOfWord}
 use Rattle.recognisers.specs.Text.{bytes}
 use Rattle.unicode.proofs.Rests.{part-end}
 use Rattle.recognisers.proofs.Spelling.{more-zero, more-more}
@@ -34,16 +34,16 @@ abbrev pub wordsOf : Phrase → List ℕ
 wordsOf (phrase words) = words
 wordsOf (phraseIfExists words) = words
 
-one-behind : (test : ℕ → Bool) (then : Part) (s : List ℕ) → one test then s ≡ behind (one test done s) then s
+one-behind : (test : ℕ → Bool) (then : Taker) (s : List ℕ) → one test then s ≡ behind (one test done s) then s
 unfolding one
 one-behind test then [] = refl
 one-behind test then (b ∷ s) = bytes-behind (test b) 1 then (b ∷ s)
 
-blanks-behind : (then : Part) (s : List ℕ) → blanks then s ≡ behind (blanks done s) then s
+blanks-behind : (then : Taker) (s : List ℕ) → blanks then s ≡ behind (blanks done s) then s
 unfolding blanks
 blanks-behind then s = bytes-behind (isWhitespace (codePoint s)) (run isWhitespace 0 s) then s
 
-pub walk-step : (p : ℕ) (words : List ℕ) (then : Part) (s : List ℕ) → walk (p ∷ words) then s ≡ behind (walk (p ∷ []) done s) (walk words then) s
+pub walk-step : (p : ℕ) (words : List ℕ) (then : Taker) (s : List ℕ) → walk (p ∷ words) then s ≡ behind (walk (p ∷ []) done s) (walk words then) s
 unfolding walk
 walk-step p words then s = go (eqb p 32)
   where
@@ -51,7 +51,7 @@ walk-step p words then s = go (eqb p 32)
     go true = blanks-behind (walk words then) s
     go false = one-behind (λ b. eqb (capital b) p) (walk words then) s
 
-pub walk-and : (words : List ℕ) (then : Part) (s : List ℕ) → walk words then s ≡ behind (walk words done s) then s
+pub walk-and : (words : List ℕ) (then : Taker) (s : List ℕ) → walk words then s ≡ behind (walk words done s) then s
 unfolding walk
 walk-and [] then s = sym (more-zero (then s))
 walk-and (p ∷ words) then s =
@@ -60,7 +60,7 @@ walk-and (p ∷ words) then s =
     ∙ sym (behind-behind (walk (p ∷ []) done s) (walk words done) then s)
     ∙ ap (λ (t : Taken). behind t then s) (sym (walk-step p words done s))
 
-pub walk-inside : (words : List ℕ) (then : Part) → Inside then → Inside (walk words then)
+pub walk-inside : (words : List ℕ) (then : Taker) → Inside then → Inside (walk words then)
 unfolding walk
 walk-inside [] then h s = h s
 walk-inside (p ∷ words) then h s = go (eqb p 32) (walk-inside words then h)

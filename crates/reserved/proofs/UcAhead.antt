@@ -14,7 +14,7 @@ use Rattle.unicode.specs.Character.{isContinuation, continuations, continued, f
 use Rattle.unicode.specs.Runs.{run}
 use Rattle.recognisers.specs.declared.Taken.{Taken}
 use Rattle.recognisers.specs.declared.Taken.the-variants.{Bytes, Fails}
-use Rattle.recognisers.specs.Taking.{Part, more, done, one, typed, spelled, literal, capital, blanks, endOfWord}
+use Rattle.recognisers.specs.Taking.{Taker, more, done, one, typed, spelled, literal, capital, blanks, endOfWord}
 use Rattle.reserved.specs.Phrases.{walk}
 use Rattle.reserved.specs.UcWords.{notWhitespace, trimStart, isEmpty, splitWhitespace, spaced, toAsciiUppercase}
 use Rattle.unicode.proofs.ClassesApart.{white-no-word, end-not-white, end-no-word}
@@ -46,7 +46,7 @@ no-gap words h = absurd (false≢true h)
 
 -- ---- a byte of a phrase in the text
 
-module _ (then : Part) (p : ℕ) (words : List ℕ) where
+module _ (then : Taker) (p : ℕ) (words : List ℕ) where
   pub lit-yes : (x : ℕ) (u : List ℕ) → eqb x p ≡ true → literal (p ∷ words) then (x ∷ u) ≡ more 1 (literal words then u)
   unfolding spelled one typed
   lit-yes x u e = rw e
@@ -72,7 +72,7 @@ module _ (then : Part) (p : ℕ) (words : List ℕ) where
     unfolding walk one
     letter-end = rw n
 
-module _ (then : Part) (words : List ℕ) (s : List ℕ) where
+module _ (then : Taker) (words : List ℕ) (s : List ℕ) where
   pub gap-yes : isWhitespace (codePoint s) ≡ true → walk (32 ∷ words) then s ≡ more (run isWhitespace 0 s) (walk words then (trimStart s))
   unfolding walk blanks
   gap-yes w = rw w
@@ -82,7 +82,7 @@ module _ (then : Part) (words : List ℕ) (s : List ℕ) where
   gap-no w = rw w
 
 -- a word does not begin at the end of a text
-pub begins-end : (then : Part) (words : List ℕ) → begins words ≡ true → walk words then [] ≡ Fails
+pub begins-end : (then : Taker) (words : List ℕ) → begins words ≡ true → walk words then [] ≡ Fails
 unfolding within
 begins-end then [] b = absurd (false≢true b)
 begins-end then (p ∷ words) b = letter-end then p words (ne-eqb p 32 (λ e. false≢true (rw e at b)))
@@ -208,7 +208,7 @@ stands-more n (Bytes m) = refl
 stands-more n Fails = refl
 
 -- what may follow a phrase: it says the same of the string as of the text
-abbrev pub Alike : Part → Type 0
+abbrev pub Alike : Taker → Type 0
 Alike then = (n : ℕ) (s : List ℕ) → stands (then (ahead 0 n s)) ≡ stands (then s)
 
 pub done-alike : Alike done
@@ -218,7 +218,7 @@ pub end-of-word-alike : Alike endOfWord
 unfolding endOfWord
 end-of-word-alike n s = rw (word-ahead n s)
 
-module _ (then : Part) where
+module _ (then : Taker) where
   abbrev Agree : List ℕ → ℕ → List ℕ → Type 0
   Agree words n s = stands (literal words then (ahead 0 n s)) ≡ stands (walk words then s)
 

@@ -11,7 +11,7 @@ use Rattle.unicode.specs.Character.{continuations, continued, codePoint}
 use Rattle.recognisers.specs.declared.Taken.{Taken}
 use Rattle.recognisers.specs.declared.Taken.the-variants.{Bytes, Fails}
 use Rattle.recognisers.specs.Text.{bytes}
-use Rattle.recognisers.specs.Taking.{Part, or, typed, isSpelled, spelled, literal, capital, endOfWord}
+use Rattle.recognisers.specs.Taking.{Taker, or, typed, isSpelled, spelled, literal, capital, endOfWord}
 use Rattle.reserved.specs.Phrases.{Phrase, phrase, phraseIfExists, each}
 use Rattle.reserved.specs.TopLevel.{creatable, alterableOrDroppable, eachDropped, topLevelPhrases}
 use Rattle.reserved.specs.UcWords.{getUcWords, opt, ucPhrase, firstUcPhrase}
@@ -22,12 +22,12 @@ use Rattle.reserved.proofs.UcChoices.{firstThen, own, clear, or-fails, 
 
 -- ---- an arm
 
-behind-end : (t : Taken) (then : Part) (s : List ℕ) → behind t (firstThen ([] ∷ []) then) s ≡ behind t then s
+behind-end : (t : Taken) (then : Taker) (s : List ℕ) → behind t (firstThen ([] ∷ []) then) s ≡ behind t then s
 unfolding spelled
 behind-end (Bytes n) then s = rw (or-fails (then _))
 behind-end Fails then s = refl
 
-choice-is : (c : Choice) (then : Part) (s : List ℕ) → clear c ([] ∷ []) ≡ true → behind (choose c s) then s ≡ firstThen (own c) then s
+choice-is : (c : Choice) (then : Taker) (s : List ℕ) → clear c ([] ∷ []) ≡ true → behind (choose c s) then s ≡ firstThen (own c) then s
 choice-is c then s h = sym (behind-end (choose c s) then s) ∙ commits c ([] ∷ []) then s h
 
 abbrev plainly : List (List ℕ) → List Phrase

@@ -12,7 +12,7 @@ use lib.Dec.{eqb}
 use borrow.Author.Tests.{eqb-true, eq-eqb}
 use Rattle.recognisers.specs.declared.Taken.{Taken}
 use Rattle.recognisers.specs.declared.Taken.the-variants.{Bytes, Fails}
-use Rattle.recognisers.specs.Taking.{Part, more, or, done, typed, isSpelled, literal}
+use Rattle.recognisers.specs.Taking.{Taker, more, or, done, typed, isSpelled, literal}
 use Rattle.recognisers.proofs.Spelling.{more-zero, spelled-is}
 use Rattle.reserved.specs.UcChoices.{Choice, words, both, either, maybe, behind, firstWord, choose}
 use Rattle.reserved.proofs.Behind.{behind-behind, behind-same, literal-behind}
@@ -27,11 +27,11 @@ or-fails Fails = refl
 
 -- ---- phrases written out: the first that stands, with what follows it
 
-abbrev pub firstThen : List (List ℕ) → Part → Part
+abbrev pub firstThen : List (List ℕ) → Taker → Taker
 firstThen [] then s = Fails
 firstThen (w ∷ ws) then s = or (literal w then s) (firstThen ws then s)
 
-firstThen-append : (A B : List (List ℕ)) (then : Part) (s : List ℕ) → firstThen (A ++ B) then s ≡ or (firstThen A then s) (firstThen B then s)
+firstThen-append : (A B : List (List ℕ)) (then : Taker) (s : List ℕ) → firstThen (A ++ B) then s ≡ or (firstThen A then s) (firstThen B then s)
 firstThen-append [] B then s = refl
 firstThen-append (w ∷ A) B then s = rw (firstThen-append A B then s) (go (literal w then s))
   where
@@ -81,10 +81,10 @@ one-begins (c ∷ w) (d ∷ x) (b ∷ s) e f =
     let q = eqb-true b d (f₂ .0) in
     rw (← p, ← q, eq-eqb b b refl) (one-begins w x s (e₂ .1) (f₂ .1))
 
-not-there : (x : List ℕ) (then : Part) (s : List ℕ) → isSpelled typed x s ≡ false → literal x then s ≡ Fails
+not-there : (x : List ℕ) (then : Taker) (s : List ℕ) → isSpelled typed x s ≡ false → literal x then s ≡ Fails
 not-there x then s e = spelled-is typed x s then ∙ rw e
 
-apart-fails : (w : List ℕ) (B : List (List ℕ)) (then : Part) (s : List ℕ) → isSpelled typed w s ≡ true → apartFrom w B ≡ true → firstThen B then s ≡ Fails
+apart-fails : (w : List ℕ) (B : List (List ℕ)) (then : Taker) (s : List ℕ) → isSpelled typed w s ≡ true → apartFrom w B ≡ true → firstThen B then s ≡ Fails
 apart-fails w [] then s e a = refl
 apart-fails w (x ∷ B) then s e a =
     let a₂ = and-eq-true-iff (not (isSpelled typed w x) && not (isSpelled typed x w)) (apartFrom w B) .0 a in
@@ -100,7 +100,7 @@ abbrev anySpelled : List (List ℕ) → List ℕ → Bool
 anySpelled [] s = false
 anySpelled (w ∷ A) s = isSpelled typed w s || anySpelled A s
 
-any-apart : (A B : List (List ℕ)) (then : Part) (s : List ℕ) → anySpelled A s ≡ true → allApart A B ≡ true → firstThen B then s ≡ Fails
+any-apart : (A B : List (List ℕ)) (then : Taker) (s : List ℕ) → anySpelled A s ≡ true → allApart A B ≡ true → firstThen B then s ≡ Fails
 any-apart [] B then s e a = absurd (false≢true e)
 any-apart (w ∷ A) B then s e a =
     let a₂ = and-eq-true-iff (apartFrom w B) (allApart A B) .0 a in
@@ -176,7 +176,7 @@ covers (maybe c) B s n e a = any-append (written c B) B s ∙ go (choose c s) re
 abbrev pub own : Choice → List (List ℕ)
 own c = written c ([] ∷ [])
 
-excludes : (c : Choice) (B : List (List ℕ)) (then : Part) (s : List ℕ) (n : ℕ) → choose c s ≡ Bytes n → allApart (own c) B ≡ true → firstThen B then s ≡ Fails
+excludes : (c : Choice) (B : List (List ℕ)) (then : Taker) (s : List ℕ) (n : ℕ) → choose c s ≡ Bytes n → allApart (own c) B ≡ true → firstThen B then s ≡ Fails
 unfolding isSpelled
 excludes c B then s n e a = any-apart (own c) B then s (covers c ([] ∷ []) s n e refl) a
 
@@ -189,7 +189,7 @@ clear (both a b) B = clear a (written b B) && clear b B
 clear (either a b) B = (clear a B && clear b B) && allApart (own a) (written b B)
 clear (maybe a) B = clear a B && allApart (own a) B
 
-or-behind : (t : Taken) (a b : Part) (s : List ℕ) → or (behind t a s) (behind t b s) ≡ behind t (λ u. or (a u) (b u)) s
+or-behind : (t : Taken) (a b : Taker) (s : List ℕ) → or (behind t a s) (behind t b s) ≡ behind t (λ u. or (a u) (b u)) s
 or-behind (Bytes n) a b s = go (a (drop n s))
   where
     go : (u : Taken) → or (more n u) (more n (b (drop n s))) ≡ more n (or u (b (drop n s)))
@@ -197,7 +197,7 @@ or-behind (Bytes n) a b s = go (a (drop n s))
     go Fails = refl
 or-behind Fails a b s = refl
 
-prefixed-then : (w : List ℕ) (B : List (List ℕ)) (then : Part) (s : List ℕ) → firstThen (prefixed w B) then s ≡ behind (literal w done s) (firstThen B then) s
+prefixed-then : (w : List ℕ) (B : List (List ℕ)) (then : Taker) (s : List ℕ) → firstThen (prefixed w B) then s ≡ behind (literal w done s) (firstThen B then) s
 prefixed-then w [] then s = go (literal w done s)
   where
     go : (t : Taken) → Fails ≡ behind t (λ u. Fails) s
@@ -211,7 +211,7 @@ unfolding firstWord
 firstWord-is [] s = refl
 firstWord-is (w ∷ ws) s = rw (firstWord-is ws s)
 
-words-commit : (ws B : List (List ℕ)) (then : Part) (s : List ℕ) → eachApart ws ≡ true → behind (firstWord ws s) (firstThen B then) s ≡ firstThen (pairs ws B) then s
+words-commit : (ws B : List (List ℕ)) (then : Taker) (s : List ℕ) → eachApart ws ≡ true → behind (firstWord ws s) (firstThen B then) s ≡ firstThen (pairs ws B) then s
 unfolding firstWord
 words-commit [] B then s h = refl
 words-commit (w ∷ ws) B then s h =
@@ -226,7 +226,7 @@ words-commit (w ∷ ws) B then s h =
         rw (← ih, none, or-fails (literal w done s)) (sym (or-fails (behind (literal w done s) (firstThen B then) s)))
     go false q o ih = rw (not-there w done s q) ih
 
-pub commits : (c : Choice) (B : List (List ℕ)) (then : Part) (s : List ℕ) → clear c B ≡ true → behind (choose c s) (firstThen B then) s ≡ firstThen (written c B) then s
+pub commits : (c : Choice) (B : List (List ℕ)) (then : Taker) (s : List ℕ) → clear c B ≡ true → behind (choose c s) (firstThen B then) s ≡ firstThen (written c B) then s
 unfolding choose
 commits (words ws) B then s h = words-commit ws B then s h
 commits (both a b) B then s h =

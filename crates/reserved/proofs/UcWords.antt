@@ -14,7 +14,7 @@ use Rattle.unicode.specs.Runs.{run}
 use Rattle.recognisers.specs.declared.Taken.{Taken}
 use Rattle.recognisers.specs.declared.Taken.the-variants.{Bytes, Fails}
 use Rattle.recognisers.specs.Text.{bytes}
-use Rattle.recognisers.specs.Taking.{Part, more, done, one, typed, spelled, literal, endOfWord}
+use Rattle.recognisers.specs.Taking.{Taker, more, done, one, typed, spelled, literal, endOfWord}
 use Rattle.reserved.specs.Phrases.{walk, after, optional, phrase, phraseIfExists}
 use Rattle.reserved.specs.UcWords.{trimStart, splitWhitespace, getUcWords, lastWord, finalize, opt, ucPhrase, finalized, phraseByUcWords}
 use Rattle.reserved.specs.UcChoices.{behind}
@@ -115,12 +115,12 @@ agrees (suc n) words s h w =
 -- ---- with `opt`
 
 -- a part that goes on with what follows where it has taken its bytes, and does not come back
-abbrev Forward : (Part → Part) → Type 0
-Forward part = (then : Part) (s : List ℕ) → part then s ≡ behind (part done s) then s
+abbrev Forward : (Taker → Taker) → Type 0
+Forward part = (then : Taker) (s : List ℕ) → part then s ≡ behind (part done s) then s
 
 -- `opt(..)` between a part and the end of the word
-module _ (first second : Part → Part) (f : Forward first) (g : Forward second) (s : List ℕ) where
-  abbrev maybe : Part
+module _ (first second : Taker → Taker) (f : Forward first) (g : Forward second) (s : List ℕ) where
+  abbrev maybe : Taker
   maybe t = after (second done t) endOfWord t
 
   opt-yes : stands (first (second done) s) ≡ true → first maybe s ≡ first (second endOfWord) s
@@ -145,7 +145,7 @@ module _ (first second : Part → Part) (f : Forward first) (g : Forward second)
       go (Bytes n) h = ap (more n) (inner n (second done (drop n s)) h)
       go Fails h = refl
 
-walk-append : (words more : List ℕ) (then : Part) (s : List ℕ) → walk (words ++ more) then s ≡ walk words (walk more then) s
+walk-append : (words more : List ℕ) (then : Taker) (s : List ℕ) → walk (words ++ more) then s ≡ walk words (walk more then) s
 unfolding walk
 walk-append [] more then s = refl
 walk-append (p ∷ words) more then s =
@@ -153,7 +153,7 @@ walk-append (p ∷ words) more then s =
     ∙ behind-same (walk (p ∷ []) done s) (walk (words ++ more) then) (walk words (walk more then)) s (walk-append words more then)
     ∙ sym (walk-step p words (walk more then) s)
 
-pub literal-append : (words more : List ℕ) (then : Part) (s : List ℕ) → literal (words ++ more) then s ≡ literal words (literal more then) s
+pub literal-append : (words more : List ℕ) (then : Taker) (s : List ℕ) → literal (words ++ more) then s ≡ literal words (literal more then) s
 unfolding spelled one
 literal-append [] more then s = refl
 literal-append (p ∷ words) more then [] = refl

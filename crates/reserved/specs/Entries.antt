@@ -7,7 +7,7 @@ use lib.ListN.{length, take, getD}
 use Rattle.recognisers.specs.declared.Taken.{Taken}
 use Rattle.recognisers.specs.declared.Taken.the-variants.{Bytes, Fails}
 use Rattle.recognisers.specs.Text.{byte, bytes}
-use Rattle.recognisers.specs.Taking.{Part, endOfWord}
+use Rattle.recognisers.specs.Taking.{Taker, endOfWord}
 use Rattle.recognisers.specs.declared.TokenKind.the-variants.{Reserved, ReservedTopLevelNoIndent, ReservedNewlineAfter, Join}
 use Rattle.recognisers.specs.declared.Recognised.{Recognised}
 use Rattle.recognisers.specs.declared.Recognised.the-variants as R
@@ -38,14 +38,14 @@ entries =
     ++ (grouped (byte "J") joinPhrases
     ++ (grouped (byte "I") noIndentPhrases ++ (grouped (byte "R") plainTwoPhrases ++ grouped (byte "R") plainOnePhrases)))))
 
-unfoldable pub ifExists : Part
+unfoldable pub ifExists : Taker
 ifExists s = optional (bytes " IF EXISTS") endOfWord s
 
-abbrev pub ending : Bool → Part
+abbrev pub ending : Bool → Taker
 ending true = ifExists
 ending false = endOfWord
 
-unfoldable pub entryEnd : ℕ → List ℕ → Part
+unfoldable pub entryEnd : ℕ → List ℕ → Taker
 entryEnd group words s = walk words (ending (eqb group (byte "D"))) s
 
 -- the entry where it stands in the text, else another answer

@@ -6,7 +6,7 @@ use lib.ListN.{drop}
 use Rattle.recognisers.specs.declared.Taken.{Taken}
 use Rattle.recognisers.specs.declared.Taken.the-variants.{Bytes, Fails}
 use Rattle.recognisers.specs.Text.{bytes}
-use Rattle.recognisers.specs.Taking.{Part, more, or, done, literal, endOfWord}
+use Rattle.recognisers.specs.Taking.{Taker, more, or, done, literal, endOfWord}
 use Rattle.reserved.specs.TopLevel.{creatable, alterableOrDroppable}
 use Rattle.reserved.specs.UcWords.{getUcWords, opt, finalized}
 
@@ -23,17 +23,17 @@ pub data Choice : Type 0 where
 abbrev pub word : List ℕ → Choice
 word w = words (w ∷ [])
 
--- what was taken, and a part behind it
-abbrev pub behind : Taken → Part → Part
+-- what was taken, and a taker behind it
+abbrev pub behind : Taken → Taker → Taker
 behind (Bytes n) then uc = more n (then (drop n uc))
 behind Fails then uc = Fails
 
 -- the first of the words that stands there
-unfoldable pub firstWord : List (List ℕ) → Part
+unfoldable pub firstWord : List (List ℕ) → Taker
 firstWord [] uc = Fails
 firstWord (w ∷ ws) uc = or (literal w done uc) (firstWord ws uc)
 
-unfoldable pub choose : Choice → Part
+unfoldable pub choose : Choice → Taker
 choose (words ws) uc = firstWord ws uc
 choose (both a b) uc = behind (choose a uc) (choose b) uc
 choose (either a b) uc = or (choose a uc) (choose b uc)
@@ -45,11 +45,11 @@ pub data Arm : Type 0 where
   -- with `opt(" IF EXISTS")` as the last of the choice
   endedIfExists : Choice → Arm
 
-unfoldable pub armEnd : Arm → Part
+unfoldable pub armEnd : Arm → Taker
 armEnd (ended c) uc = behind (choose c uc) endOfWord uc
 armEnd (endedIfExists c) uc = behind (choose c uc) (opt (bytes " IF EXISTS") endOfWord) uc
 
-unfoldable pub firstArm : List Arm → Part
+unfoldable pub firstArm : List Arm → Taker
 firstArm [] uc = Fails
 firstArm (arm ∷ arms) uc = or (armEnd arm uc) (firstArm arms uc)
 
@@ -105,5 +105,5 @@ topLevelArms =
     ∷ ended (word (bytes "WINDOW"))
     ∷ []
 
-unfoldable pub topLevelByUcWords : Part
+unfoldable pub topLevelByUcWords : Taker
 topLevelByUcWords s = finalized s (getUcWords 4 s) (firstArm topLevelArms (getUcWords 4 s))

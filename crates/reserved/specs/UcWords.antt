@@ -7,7 +7,7 @@ use lib.ListN.{length, take, drop}
 use Rattle.recognisers.specs.declared.Taken.{Taken}
 use Rattle.recognisers.specs.declared.Taken.the-variants.{Bytes, Fails}
 use Rattle.recognisers.specs.Text.{byte, bytes}
-use Rattle.recognisers.specs.Taking.{Part, taken, more, or, done, typed, isSpelled, capital, literal, endOfWord}
+use Rattle.recognisers.specs.Taking.{Taker, taken, more, or, done, typed, isSpelled, capital, literal, endOfWord}
 use Rattle.unicode.specs.Classes.{isWhitespace}
 use Rattle.unicode.specs.Runs.{run}
 use Rattle.reserved.specs.Phrases.{Phrase, phrase, phraseIfExists, after}
@@ -47,7 +47,7 @@ unfoldable pub getUcWords : ℕ → List ℕ → List ℕ
 getUcWords n s = toAsciiUppercase (join (splitWhitespace n s))
 
 -- how many bytes stand before the first occurrence of a word
-unfoldable pub find : List ℕ → Part
+unfoldable pub find : List ℕ → Taker
 find word [] = cond (isSpelled typed word []) (Bytes 0) Fails
 find word (b ∷ s) = cond (isSpelled typed word (b ∷ s)) (Bytes 0) (more 1 (find word s))
 
@@ -65,16 +65,16 @@ unfoldable pub finalize : List ℕ → List ℕ → ℕ
 finalize s token = taken (find (lastWord token) (toAsciiUppercase s)) + length (lastWord token)
 
 -- `opt`: these bytes where they stand there, and no way back
-unfoldable pub opt : List ℕ → Part → Part
+unfoldable pub opt : List ℕ → Taker → Taker
 opt word then s = after (literal word done s) then s
 
 -- a phrase on the string that `get_uc_words` made
-unfoldable pub ucPhrase : Phrase → Part
+unfoldable pub ucPhrase : Phrase → Taker
 ucPhrase (phrase words) uc = literal words endOfWord uc
 ucPhrase (phraseIfExists words) uc = literal words (opt (bytes " IF EXISTS") endOfWord) uc
 
 -- `alt`
-unfoldable pub firstUcPhrase : List Phrase → Part
+unfoldable pub firstUcPhrase : List Phrase → Taker
 firstUcPhrase [] uc = Fails
 firstUcPhrase (p ∷ phrases) uc = or (ucPhrase p uc) (firstUcPhrase phrases uc)
 
@@ -83,12 +83,12 @@ abbrev pub finalized : List ℕ → List ℕ → Taken → Taken
 finalized s uc (Bytes n) = Bytes (finalize s (take n uc))
 finalized s uc Fails = Fails
 
-unfoldable pub phraseByUcWords : ℕ → Phrase → Part
+unfoldable pub phraseByUcWords : ℕ → Phrase → Taker
 phraseByUcWords n p s = finalized s (getUcWords n s) (ucPhrase p (getUcWords n s))
 
-unfoldable pub firstByUcWords : ℕ → List Phrase → Part
+unfoldable pub firstByUcWords : ℕ → List Phrase → Taker
 firstByUcWords n phrases s = finalized s (getUcWords n s) (firstUcPhrase phrases (getUcWords n s))
 
 -- `get_plain_reserved_one_token` does without `finalize`, and takes the token's length
-unfoldable pub firstByUcWord : List Phrase → Part
+unfoldable pub firstByUcWord : List Phrase → Taker
 firstByUcWord phrases s = firstUcPhrase phrases (getUcWords 1 s)

@@ -20,11 +20,11 @@ use Rattle.recognisers.specs.Same.{same}
 use Rattle.recognisers.specs.Taking.{one, spelled, typed, capital, count, digit1, contains, startsWith}
 use Rattle.recognisers.specs.TypeSpecifier.{getTypeSpecifierToken}
 use Rattle.recognisers.specs.Comment.{getCommentToken}
-use Rattle.recognisers.specs.Strings.{takeTillEscaping, closedBy, hexPart, quotedPart, stringPart, getStringToken}
+use Rattle.recognisers.specs.Strings.{takeTillEscaping, closedBy, hexTaken, quotedTaken, stringTaken, getStringToken}
 use Rattle.recognisers.specs.Parens.{getOpenParenToken, getCloseParenToken}
 use Rattle.recognisers.specs.Number.{decimalNumber, scientificNotation, unsigned, getNumberToken}
 use Rattle.recognisers.specs.Words.{getWhitespaceToken, isOperator, getOperatorToken}
-use Rattle.recognisers.specs.Placeholder.{indexedPart, getIndexedPlaceholderToken, placeholderName, identPart, getIdentNamedPlaceholderToken, getPlaceholderToken}
+use Rattle.recognisers.specs.Placeholder.{indexedTaken, getIndexedPlaceholderToken, placeholderName, identTaken, getIdentNamedPlaceholderToken, getPlaceholderToken}
 use Rattle.reserved.specs.Reserved.{mayBeReserved, getReservedWordToken}
 use Rattle.tokenizer.specs.declared.Token.{Token}
 use Rattle.tokenizer.specs.Memory.{takesTypeSpecifier, afterBetween, lastTopLevel, remember, remembered}
@@ -38,7 +38,7 @@ abbrev string : Token
 string = record { kind = K.String; start = 2; len = 4; alias = 4; key = None }
 
 pub national-placeholder : (dialect : Dialect) (joins named : Bool) → tokens (record { dialect = dialect; joins = joins; named = named }) (bytes "@N'ab'") ≡ placeholder ∷ string ∷ []
-unfolding within inRanges whiteSpace alphabetic numeric continuations continued firstBits withBits codePoint isWhitespace isAlphabetic isNumeric isAlphanumeric isPlaceholderNameCharacter run same one spelled typed capital count digit1 contains startsWith getTypeSpecifierToken getCommentToken takeTillEscaping closedBy hexPart quotedPart stringPart getStringToken getOpenParenToken getCloseParenToken decimalNumber scientificNotation unsigned getNumberToken getWhitespaceToken isOperator getOperatorToken indexedPart getIndexedPlaceholderToken placeholderName identPart getIdentNamedPlaceholderToken getPlaceholderToken mayBeReserved getReservedWordToken takesTypeSpecifier afterBetween lastTopLevel remember remembered fromPlaceholder fromOperator fromReserved fromNumber fromCloseParen fromOpenParen fromString fromTypeSpecifier getNextToken nextPiece givenOut tokensFrom tokens
+unfolding within inRanges whiteSpace alphabetic numeric continuations continued firstBits withBits codePoint isWhitespace isAlphabetic isNumeric isAlphanumeric isPlaceholderNameCharacter run same one spelled typed capital count digit1 contains startsWith getTypeSpecifierToken getCommentToken takeTillEscaping closedBy hexTaken quotedTaken stringTaken getStringToken getOpenParenToken getCloseParenToken decimalNumber scientificNotation unsigned getNumberToken getWhitespaceToken isOperator getOperatorToken indexedTaken getIndexedPlaceholderToken placeholderName identTaken getIdentNamedPlaceholderToken getPlaceholderToken mayBeReserved getReservedWordToken takesTypeSpecifier afterBetween lastTopLevel remember remembered fromPlaceholder fromOperator fromReserved fromNumber fromCloseParen fromOpenParen fromString fromTypeSpecifier getNextToken nextPiece givenOut tokensFrom tokens
 national-placeholder Generic joins true = refl
 national-placeholder Generic joins false = refl
 national-placeholder PostgreSql joins true = refl

@@ -8,17 +8,17 @@ use Rattle.recognisers.proofs.numbers.fraction_exponent.Tie as tie
 count-digits-requires : tie.Need-count-digits-requires
 count-digits-requires c κs = search needs
 
-sub-exponent-part : tie.Need-sub-exponent-part
-sub-exponent-part c = search (digits-fit exponent)
+sub-exponent-taken : tie.Need-sub-exponent-taken
+sub-exponent-taken c = search (digits-fit exponent)
 
-part-exponent-part-start : tie.Need-part-exponent-part-start
-part-exponent-part-start c = search (digits-fit exponent)
+part-exponent-taken-start : tie.Need-part-exponent-taken-start
+part-exponent-taken-start c = search (digits-fit exponent)
 
-part-exponent-part-end : tie.Need-part-exponent-part-end
-part-exponent-part-end c = search needs
+part-exponent-taken-end : tie.Need-part-exponent-taken-end
+part-exponent-taken-end c = search needs
 
-exponent-part-requires : tie.Need-exponent-part-requires
-exponent-part-requires c κs = search needs
+exponent-taken-requires : tie.Need-exponent-taken-requires
+exponent-taken-requires c κs = search needs
 
 n-more-requires : tie.Need-n-more-requires
 n-more-requires c κs = search (fits-more exponent exponent-inside, digits-fit exponent)
@@ -31,9 +31,9 @@ fraction-exponent-spec =
     tie.close
     (tie.spec
     count-digits-requires
-    sub-exponent-part
-    part-exponent-part-start
-    part-exponent-part-end
-    exponent-part-requires
+    sub-exponent-taken
+    part-exponent-taken-start
+    part-exponent-taken-end
+    exponent-taken-requires
     n-more-requires
     returns)

@@ -3,8 +3,8 @@ use Rattle.recognisers.proofs.PlaceholderLaws.{braced-token, braced-not
 use Rattle.recognisers.proofs.placeholders.get_braced_named_placeholder_token.Statement.{statement}
 use Rattle.recognisers.proofs.placeholders.get_braced_named_placeholder_token.Tie as tie
 
-braced-part-requires : tie.Need-braced-part-requires
-braced-part-requires c κs = search needs
+braced-taken-requires : tie.Need-braced-taken-requires
+braced-taken-requires c κs = search needs
 
 enum-known-part : tie.Need-enum-known-part
 enum-known-part c = search needs
@@ -24,4 +24,4 @@ returns-2 c = search braced-nothing
 pub get-braced-named-placeholder-token-spec : {M : Type 1} → statement M
 get-braced-named-placeholder-token-spec =
     tie.close
-    (tie.spec braced-part-requires enum-known-part less-requires enum-told returns returns-2)
+    (tie.spec braced-taken-requires enum-known-part less-requires enum-told returns returns-2)

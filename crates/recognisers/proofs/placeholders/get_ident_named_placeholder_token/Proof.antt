@@ -3,8 +3,8 @@ use Rattle.recognisers.proofs.PlaceholderLaws.{ident-token, ident-nothi
 use Rattle.recognisers.proofs.placeholders.get_ident_named_placeholder_token.Statement.{statement}
 use Rattle.recognisers.proofs.placeholders.get_ident_named_placeholder_token.Tie as tie
 
-ident-part-requires : tie.Need-ident-part-requires
-ident-part-requires c κs = search needs
+ident-taken-requires : tie.Need-ident-taken-requires
+ident-taken-requires c κs = search needs
 
 enum-known-part : tie.Need-enum-known-part
 enum-known-part c = search needs
@@ -24,4 +24,4 @@ returns-2 c = search ident-nothing
 pub get-ident-named-placeholder-token-spec : {M : Type 1} → statement M
 get-ident-named-placeholder-token-spec =
     tie.close
-    (tie.spec ident-part-requires enum-known-part less-requires enum-told returns returns-2)
+    (tie.spec ident-taken-requires enum-known-part less-requires enum-told returns returns-2)

@@ -3,8 +3,8 @@ use Rattle.recognisers.proofs.PlaceholderLaws.{indexed-fits, indexed-to
 use Rattle.recognisers.proofs.placeholders.get_indexed_placeholder_token.Statement.{statement}
 use Rattle.recognisers.proofs.placeholders.get_indexed_placeholder_token.Tie as tie
 
-indexed-part-requires : tie.Need-indexed-part-requires
-indexed-part-requires c κs = search needs
+indexed-taken-requires : tie.Need-indexed-taken-requires
+indexed-taken-requires c κs = search needs
 
 enum-known-part : tie.Need-enum-known-part
 enum-known-part c = search needs
@@ -25,7 +25,7 @@ pub get-indexed-placeholder-token-spec : {M : Type 1} → statement M
 get-indexed-placeholder-token-spec =
     tie.close
     (tie.spec
-    indexed-part-requires
+    indexed-taken-requires
     enum-known-part
     indexed-key-requires
     enum-told

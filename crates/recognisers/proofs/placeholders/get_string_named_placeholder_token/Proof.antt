@@ -3,8 +3,8 @@ use Rattle.recognisers.proofs.PlaceholderLaws.{string-named-fits, strin
 use Rattle.recognisers.proofs.placeholders.get_string_named_placeholder_token.Statement.{statement}
 use Rattle.recognisers.proofs.placeholders.get_string_named_placeholder_token.Tie as tie
 
-string-named-part-requires : tie.Need-string-named-part-requires
-string-named-part-requires c κs = search needs
+string-named-taken-requires : tie.Need-string-named-taken-requires
+string-named-taken-requires c κs = search needs
 
 enum-known-part : tie.Need-enum-known-part
 enum-known-part c = search needs
@@ -25,7 +25,7 @@ pub get-string-named-placeholder-token-spec : {M : Type 1} → statement M
 get-string-named-placeholder-token-spec =
     tie.close
     (tie.spec
-    string-named-part-requires
+    string-named-taken-requires
     enum-known-part
     string-key-requires
     enum-told

@@ -8,17 +8,17 @@ use Rattle.recognisers.proofs.placeholders.marked_string.Tie as tie
 starts-among-requires : tie.Need-starts-among-requires
 starts-among-requires c κs = search needs
 
-sub-placeholder-string-part : tie.Need-sub-placeholder-string-part
-sub-placeholder-string-part c = search (marked-fits done)
+sub-placeholder-string-taken : tie.Need-sub-placeholder-string-taken
+sub-placeholder-string-taken c = search (marked-fits done)
 
-part-placeholder-string-part-start : tie.Need-part-placeholder-string-part-start
-part-placeholder-string-part-start c = search (marked-fits done)
+part-placeholder-string-taken-start : tie.Need-part-placeholder-string-taken-start
+part-placeholder-string-taken-start c = search (marked-fits done)
 
-part-placeholder-string-part-end : tie.Need-part-placeholder-string-part-end
-part-placeholder-string-part-end c = search needs
+part-placeholder-string-taken-end : tie.Need-part-placeholder-string-taken-end
+part-placeholder-string-taken-end c = search needs
 
-placeholder-string-part-requires : tie.Need-placeholder-string-part-requires
-placeholder-string-part-requires c κs = search needs
+placeholder-string-taken-requires : tie.Need-placeholder-string-taken-requires
+placeholder-string-taken-requires c κs = search needs
 
 n-more-requires : tie.Need-n-more-requires
 n-more-requires c κs = search marked-string-fits
@@ -34,10 +34,10 @@ marked-string-spec =
     tie.close
     (tie.spec
     starts-among-requires
-    sub-placeholder-string-part
-    part-placeholder-string-part-start
-    part-placeholder-string-part-end
-    placeholder-string-part-requires
+    sub-placeholder-string-taken
+    part-placeholder-string-taken-start
+    part-placeholder-string-taken-end
+    placeholder-string-taken-requires
     n-more-requires
     returns
     returns-2)

@@ -1,7 +1,7 @@
 use borrow.Author.Needs.{needs}
-use Rattle.recognisers.specs.Placeholder.{indexedPart}
-use Rattle.recognisers.proofs.placeholders.indexed_part.Statement.{statement}
-use Rattle.recognisers.proofs.placeholders.indexed_part.Tie as tie
+use Rattle.recognisers.specs.Placeholder.{indexedTaken}
+use Rattle.recognisers.proofs.placeholders.indexed_taken.Statement.{statement}
+use Rattle.recognisers.proofs.placeholders.indexed_taken.Tie as tie
 
 slice-aggregate-marked-digits : tie.Need-slice-aggregate-marked-digits
 slice-aggregate-marked-digits c = search needs
@@ -19,11 +19,11 @@ first-of-requires : tie.Need-first-of-requires
 first-of-requires c κs = search needs
 
 returns : tie.Need-returns
-unfolding indexedPart
+unfolding indexedTaken
 returns c = cc
 
-pub indexed-part-spec : {M : Type 1} → statement M
-indexed-part-spec =
+pub indexed-taken-spec : {M : Type 1} → statement M
+indexed-taken-spec =
     tie.close
     (tie.spec
     slice-aggregate-marked-digits

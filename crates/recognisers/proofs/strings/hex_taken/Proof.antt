@@ -1,7 +1,7 @@
 use borrow.Author.Needs.{needs}
-use Rattle.recognisers.specs.Strings.{hexPart}
-use Rattle.recognisers.proofs.strings.hex_part.Statement.{statement}
-use Rattle.recognisers.proofs.strings.hex_part.Tie as tie
+use Rattle.recognisers.specs.Strings.{hexTaken}
+use Rattle.recognisers.proofs.strings.hex_taken.Statement.{statement}
+use Rattle.recognisers.proofs.strings.hex_taken.Tie as tie
 
 slice-aggregate-quoted : tie.Need-slice-aggregate-quoted
 slice-aggregate-quoted c = search needs
@@ -25,11 +25,11 @@ first-of-requires : tie.Need-first-of-requires
 first-of-requires c κs = search needs
 
 returns : tie.Need-returns
-unfolding hexPart
+unfolding hexTaken
 returns c = cc
 
-pub hex-part-spec : {M : Type 1} → statement M
-hex-part-spec =
+pub hex-taken-spec : {M : Type 1} → statement M
+hex-taken-spec =
     tie.close
     (tie.spec
     slice-aggregate-quoted

@@ -1,6 +1,7 @@
 use borrow.Author.Needs.{needs}
-use Rattle.recognisers.proofs.strings.prefixed_part.Statement.{statement}
-use Rattle.recognisers.proofs.strings.prefixed_part.Tie as tie
+use Rattle.recognisers.specs.Strings.{quotedTaken}
+use Rattle.recognisers.proofs.strings.quoted_taken.Statement.{statement}
+use Rattle.recognisers.proofs.strings.quoted_taken.Tie as tie
 
 slice-aggregate-quoted : tie.Need-slice-aggregate-quoted
 slice-aggregate-quoted c = search needs
@@ -20,8 +21,8 @@ slice-aggregate-quoted-4 c = search needs
 quoted-requires-2 : tie.Need-quoted-requires-2
 quoted-requires-2 c κs = search needs
 
-hex-part-requires : tie.Need-hex-part-requires
-hex-part-requires c κs = search needs
+prefixed-taken-requires : tie.Need-prefixed-taken-requires
+prefixed-taken-requires c κs = search needs
 
 first-of-requires : tie.Need-first-of-requires
 first-of-requires c κs = search needs
@@ -30,10 +31,11 @@ first-of-requires-2 : tie.Need-first-of-requires-2
 first-of-requires-2 c κs = search needs
 
 returns : tie.Need-returns
+unfolding quotedTaken
 returns c = cc
 
-pub prefixed-part-spec : {M : Type 1} → statement M
-prefixed-part-spec =
+pub quoted-taken-spec : {M : Type 1} → statement M
+quoted-taken-spec =
     tie.close
     (tie.spec
     slice-aggregate-quoted
@@ -42,7 +44,7 @@ prefixed-part-spec =
     slice-aggregate-quoted-3
     slice-aggregate-quoted-4
     quoted-requires-2
-    hex-part-requires
+    prefixed-taken-requires
     first-of-requires
     first-of-requires-2
     returns)

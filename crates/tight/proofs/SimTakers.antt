@@ -1,4 +1,4 @@
--- A part's law: of x and x′ with `Sim n x x′` it takes the same, as far as n tells.
+-- A taker's law: of x and x′ with `Sim n x x′` it takes the same, as far as n tells.
 -- Assumes nothing.
 use Prim.Native.Nat.{ℕ, zero, suc, _+_}
 use native.Mathlib.Numerals.{one-add}
@@ -14,7 +14,7 @@ use Rattle.unicode.specs.Classes.{isWhitespace, isWordCharacter}
 use Rattle.unicode.specs.Runs.{run}
 use Rattle.recognisers.specs.declared.Taken.{Taken}
 use Rattle.recognisers.specs.declared.Taken.the-variants.{Bytes, Fails}
-use Rattle.recognisers.specs.Taking.{Part, or, done, one, spelled, typed, blanks, endOfWord, digit0, digit1, count, isDigit, contains}
+use Rattle.recognisers.specs.Taking.{Taker, or, done, one, spelled, typed, blanks, endOfWord, digit0, digit1, count, isDigit, contains}
 use Rattle.recognisers.specs.Taking as T
 use Rattle.recognisers.proofs.Spelling.{more-zero, more-more}
 use Rattle.unicode.proofs.ClassesApart.{white-no-word, zero-no-word}
@@ -27,7 +27,7 @@ pub data Same : ℕ → Taken → Taken → Type 0 where
   equal : {n m : ℕ} → Same n (Bytes m) (Bytes m)
   other : {n m m′ : ℕ} → (m ≡ n → ⊥) → Same n (Bytes m) (Bytes m′)
 
-abbrev pub Law : Part → Type 0
+abbrev pub Law : Taker → Type 0
 Law part = (n : ℕ) (x x′ : List ℕ) → Sim n x x′ → Same n (part x) (part x′)
 
 pub same-refl : (n : ℕ) (t : Taken) → Same n t t
@@ -62,7 +62,7 @@ or-same neither r = r
 or-same equal r = equal
 or-same (other h) r = other h
 
-pub or-law : (first second : Part) → Law first → Law second → Law (λ x. or (first x) (second x))
+pub or-law : (first second : Taker) → Law first → Law second → Law (λ x. or (first x) (second x))
 or-law first second l k n x x′ s = or-same (l n x x′ s) (k n x x′ s)
 
 pub done-law : Law done
@@ -73,7 +73,7 @@ done-law n x x′ s = equal
 abbrev pub Quiet : (ℕ → Bool) → Type 0
 Quiet test = (b : ℕ) → blankByte b ≡ true → test b ≡ false
 
-pub one-law : (test : ℕ → Bool) → Quiet test → (then : Part) → Law then → Law (one test then)
+pub one-law : (test : ℕ → Bool) → Quiet test → (then : Taker) → Law then → Law (one test then)
 unfolding one
 one-law test quiet then l n x x′ s = go s
   where
@@ -108,7 +108,7 @@ typed-leaves b h = refl
 pub form-quiet : (form : ℕ → ℕ) → Leaves form → (w : ℕ) → blankByte w ≡ false → Quiet (λ b. eqb (form b) w)
 form-quiet form k w h b g = rw (k b g) (not-byte w b h g)
 
-pub spelled-law : (form : ℕ → ℕ) → Leaves form → (word : List ℕ) → allQuiet word ≡ true → (then : Part) → Law then → Law (spelled form word then)
+pub spelled-law : (form : ℕ → ℕ) → Leaves form → (word : List ℕ) → allQuiet word ≡ true → (then : Taker) → Law then → Law (spelled form word then)
 unfolding spelled
 spelled-law form k [] a then l n x x′ s = l n x x′ s
 spelled-law form k (w ∷ word) a then l n x x′ s =
@@ -128,11 +128,11 @@ digit-quiet : Quiet isDigit
 digit-quiet b h = range-quiet 0x30 0x39 (omega arith) (omega arith) b h
 
 -- the bytes that pass a test, and what follows
-unfoldable pub many : (ℕ → Bool) → Part → Part
+unfoldable pub many : (ℕ → Bool) → Taker → Taker
 many test then [] = then []
 many test then (b ∷ x) = cond (test b) (T.more 1 (many test then x)) (then (b ∷ x))
 
-pub many-law : (test : ℕ → Bool) → Quiet test → (then : Part) → Law then → Law (many test then)
+pub many-law : (test : ℕ → Bool) → Quiet test → (then : Taker) → Law then → Law (many test then)
 unfolding many
 many-law test quiet then l n x x′ s = go s
   where
@@ -147,7 +147,7 @@ many-law test quiet then l n x x′ s = go s
     go (swap {s = c} {x} {y′} w q s) = rw (none (blankish w), none (separator-ish y′ q)) (l 0 x (c ∷ y′) (swap w q s))
     go (lose {x} {x′} w q s) = rw (none (blankish w), none (ends-ish q)) (l 0 x x′ (lose w q s))
 
-digit0-many : (then : Part) (x : List ℕ) → digit0 then x ≡ many isDigit then x
+digit0-many : (then : Taker) (x : List ℕ) → digit0 then x ≡ many isDigit then x
 unfolding digit0 many count
 digit0-many then [] = more-zero (then [])
 digit0-many then (b ∷ x) = go (isDigit b) (digit0-many then x)
@@ -157,7 +157,7 @@ digit0-many then (b ∷ x) = go (isDigit b) (digit0-many then x)
     go true h = sym (ap (T.more 1) (sym h) ∙ more-more 1 (count isDigit x) (then (drop (count isDigit x) x)) ∙ rw (one-add (count isDigit x)))
     go false h = more-zero (then (b ∷ x))
 
-digit1-many : (then : Part) (x : List ℕ) → digit1 then x ≡ one isDigit (many isDigit then) x
+digit1-many : (then : Taker) (x : List ℕ) → digit1 then x ≡ one isDigit (many isDigit then) x
 unfolding digit1 digit0 one count
 digit1-many then [] = refl
 digit1-many then (b ∷ x) = go (isDigit b)
@@ -170,10 +170,10 @@ digit1-many then (b ∷ x) = go (isDigit b)
     go true = rw (le-leb 1 (suc (count isDigit x)) (omega arith)) after
     go false = refl
 
-pub digit0-law : (then : Part) → Law then → Law (digit0 then)
+pub digit0-law : (then : Taker) → Law then → Law (digit0 then)
 digit0-law then l n x x′ s = rw (digit0-many then x, digit0-many then x′) (many-law isDigit digit-quiet then l n x x′ s)
 
-pub digit1-law : (then : Part) → Law then → Law (digit1 then)
+pub digit1-law : (then : Taker) → Law then → Law (digit1 then)
 digit1-law then l n x x′ s =
     rw (digit1-many then x, digit1-many then x′) (one-law isDigit digit-quiet (many isDigit then) (many-law isDigit digit-quiet then l) n x x′ s)
 
@@ -185,9 +185,9 @@ end-of-word-law n x x′ s = rw (class-sim isWordCharacter zero-no-word white-no
 
 -- ---- whitespace and what follows it
 
-module _ (then : Part) where
+module _ (then : Taker) where
   -- the bytes of whitespace characters one by one, and what follows; k continuation bytes are due
-  unfoldable eat : ℕ → Part
+  unfoldable eat : ℕ → Taker
   eat zero [] = then []
   eat (suc k) [] = Fails
   eat zero (b ∷ x) = cond (isBlank (b ∷ x)) (T.more 1 (eat (continuations b) x)) (then (b ∷ x))

@@ -1,7 +1,7 @@
 use borrow.Author.Needs.{needs}
-use Rattle.recognisers.specs.Strings.{quotedPart}
-use Rattle.recognisers.proofs.strings.quoted_part.Statement.{statement}
-use Rattle.recognisers.proofs.strings.quoted_part.Tie as tie
+use Rattle.recognisers.specs.Strings.{placeholderQuotedTaken}
+use Rattle.recognisers.proofs.strings.placeholder_quoted_taken.Statement.{statement}
+use Rattle.recognisers.proofs.strings.placeholder_quoted_taken.Tie as tie
 
 slice-aggregate-quoted : tie.Need-slice-aggregate-quoted
 slice-aggregate-quoted c = search needs
@@ -21,8 +21,14 @@ slice-aggregate-quoted-4 c = search needs
 quoted-requires-2 : tie.Need-quoted-requires-2
 quoted-requires-2 c κs = search needs
 
-prefixed-part-requires : tie.Need-prefixed-part-requires
-prefixed-part-requires c κs = search needs
+slice-aggregate-quoted-5 : tie.Need-slice-aggregate-quoted-5
+slice-aggregate-quoted-5 c = search needs
+
+slice-aggregate-quoted-6 : tie.Need-slice-aggregate-quoted-6
+slice-aggregate-quoted-6 c = search needs
+
+quoted-requires-3 : tie.Need-quoted-requires-3
+quoted-requires-3 c κs = search needs
 
 first-of-requires : tie.Need-first-of-requires
 first-of-requires c κs = search needs
@@ -31,11 +37,11 @@ first-of-requires-2 : tie.Need-first-of-requires-2
 first-of-requires-2 c κs = search needs
 
 returns : tie.Need-returns
-unfolding quotedPart
+unfolding placeholderQuotedTaken
 returns c = cc
 
-pub quoted-part-spec : {M : Type 1} → statement M
-quoted-part-spec =
+pub placeholder-quoted-taken-spec : {M : Type 1} → statement M
+placeholder-quoted-taken-spec =
     tie.close
     (tie.spec
     slice-aggregate-quoted
@@ -44,7 +50,9 @@ quoted-part-spec =
     slice-aggregate-quoted-3
     slice-aggregate-quoted-4
     quoted-requires-2
-    prefixed-part-requires
+    slice-aggregate-quoted-5
+    slice-aggregate-quoted-6
+    quoted-requires-3
     first-of-requires
     first-of-requires-2
     returns)

@@ -1,7 +1,6 @@
 use borrow.Author.Needs.{needs}
-use Rattle.recognisers.specs.Strings.{placeholderQuotedPart}
-use Rattle.recognisers.proofs.strings.placeholder_quoted_part.Statement.{statement}
-use Rattle.recognisers.proofs.strings.placeholder_quoted_part.Tie as tie
+use Rattle.recognisers.proofs.strings.prefixed_taken.Statement.{statement}
+use Rattle.recognisers.proofs.strings.prefixed_taken.Tie as tie
 
 slice-aggregate-quoted : tie.Need-slice-aggregate-quoted
 slice-aggregate-quoted c = search needs
@@ -21,14 +20,8 @@ slice-aggregate-quoted-4 c = search needs
 quoted-requires-2 : tie.Need-quoted-requires-2
 quoted-requires-2 c κs = search needs
 
-slice-aggregate-quoted-5 : tie.Need-slice-aggregate-quoted-5
-slice-aggregate-quoted-5 c = search needs
-
-slice-aggregate-quoted-6 : tie.Need-slice-aggregate-quoted-6
-slice-aggregate-quoted-6 c = search needs
-
-quoted-requires-3 : tie.Need-quoted-requires-3
-quoted-requires-3 c κs = search needs
+hex-taken-requires : tie.Need-hex-taken-requires
+hex-taken-requires c κs = search needs
 
 first-of-requires : tie.Need-first-of-requires
 first-of-requires c κs = search needs
@@ -37,11 +30,10 @@ first-of-requires-2 : tie.Need-first-of-requires-2
 first-of-requires-2 c κs = search needs
 
 returns : tie.Need-returns
-unfolding placeholderQuotedPart
 returns c = cc
 
-pub placeholder-quoted-part-spec : {M : Type 1} → statement M
-placeholder-quoted-part-spec =
+pub prefixed-taken-spec : {M : Type 1} → statement M
+prefixed-taken-spec =
     tie.close
     (tie.spec
     slice-aggregate-quoted
@@ -50,9 +42,7 @@ placeholder-quoted-part-spec =
     slice-aggregate-quoted-3
     slice-aggregate-quoted-4
     quoted-requires-2
-    slice-aggregate-quoted-5
-    slice-aggregate-quoted-6
-    quoted-requires-3
+    hex-taken-requires
     first-of-requires
     first-of-requires-2
     returns)

@@ -1,7 +1,7 @@
 use borrow.Author.Needs.{needs}
-use Rattle.recognisers.specs.Strings.{placeholderStringPart}
-use Rattle.recognisers.proofs.strings.placeholder_string_part.Statement.{statement}
-use Rattle.recognisers.proofs.strings.placeholder_string_part.Tie as tie
+use Rattle.recognisers.specs.Strings.{stringTaken}
+use Rattle.recognisers.proofs.strings.string_taken.Statement.{statement}
+use Rattle.recognisers.proofs.strings.string_taken.Tie as tie
 
 slice-aggregate-quoted : tie.Need-slice-aggregate-quoted
 slice-aggregate-quoted c = search needs
@@ -15,8 +15,8 @@ quoted-requires c κs = search needs
 bracketed-requires : tie.Need-bracketed-requires
 bracketed-requires c κs = search needs
 
-placeholder-quoted-part-requires : tie.Need-placeholder-quoted-part-requires
-placeholder-quoted-part-requires c κs = search needs
+quoted-taken-requires : tie.Need-quoted-taken-requires
+quoted-taken-requires c κs = search needs
 
 first-of-requires : tie.Need-first-of-requires
 first-of-requires c κs = search needs
@@ -25,18 +25,18 @@ first-of-requires-2 : tie.Need-first-of-requires-2
 first-of-requires-2 c κs = search needs
 
 returns : tie.Need-returns
-unfolding placeholderStringPart
+unfolding stringTaken
 returns c = cc
 
-pub placeholder-string-part-spec : {M : Type 1} → statement M
-placeholder-string-part-spec =
+pub string-taken-spec : {M : Type 1} → statement M
+string-taken-spec =
     tie.close
     (tie.spec
     slice-aggregate-quoted
     slice-aggregate-quoted-2
     quoted-requires
     bracketed-requires
-    placeholder-quoted-part-requires
+    quoted-taken-requires
     first-of-requires
     first-of-requires-2
     returns)
