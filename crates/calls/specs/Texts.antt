@@ -16,9 +16,13 @@ use Rattle.calls.specs.Refusals.{refusalNumber, refusalDetail}
 unfoldable pub textAnswer : List ℕ → ℕ → TextAnswer
 textAnswer text room = cond (ltb room (length text)) (Refused (OutputFull (length text))) (Written (length text))
 
--- the output once the text is written over its start, where it has the room
+-- an output once a text is written over its start
+abbrev pub writtenOver : List ℕ → List ℕ → List ℕ
+writtenOver text output = text ++ drop (length text) output
+
+-- the same where it has the room, and the output as it was where it has not
 unfoldable pub textAfter : List ℕ → List ℕ → List ℕ
-textAfter text output = cond (ltb (length output) (length text)) output (text ++ drop (length text) output)
+textAfter text output = cond (ltb (length output) (length text)) output (writtenOver text output)
 
 -- the same of a call whose text depends on the settings; a refusal writes nothing
 unfoldable pub callAnswer : (Settings → List ℕ) → ℕ → Checked → TextAnswer

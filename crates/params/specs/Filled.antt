@@ -36,10 +36,14 @@ abbrev pub partStart : ℕ × ℕ → ℕ × ℕ → Part → ℕ × ℕ
 partStart s sheet (Statement start len) = (s .0, start + s .1)
 partStart s sheet (Sheet start len) = (sheet .0, start + sheet .1)
 
+-- the bytes that stand for a token
+abbrev pub bytesFor : List ℕ → List ℕ → ℕ → Token → List ℕ
+bytesFor s sheet index t = partBytes s sheet (standsFor s sheet index t)
+
 -- the text of these tokens, from a counter on
 unfoldable pub filledFrom : List ℕ → List ℕ → ℕ → List Token → List ℕ
 filledFrom s sheet index [] = []
-filledFrom s sheet index (t ∷ ts) = partBytes s sheet (standsFor s sheet index t) ++ filledFrom s sheet (indexAfter s sheet index t) ts
+filledFrom s sheet index (t ∷ ts) = bytesFor s sheet index t ++ filledFrom s sheet (indexAfter s sheet index t) ts
 
 unfoldable pub filled : Settings → List ℕ → List ℕ → List ℕ
 filled settings s sheet = filledFrom s sheet 0 (tokens settings s)

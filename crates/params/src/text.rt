@@ -13,14 +13,14 @@ use tokenizer::at_start;
 use tokenizer::next_step;
 ghost use mathlib.Core.Path.{_≡_};
 ghost use mathlib.Core.Bool.{true};
-ghost use mathlib.Core.List.{_++_};
 ghost use Prim.Native.Nat.{_+_, _≤_};
-ghost use lib.ListN.{length, drop};
+ghost use lib.ListN.{length};
 ghost use lib.Seq.{sets};
+ghost use Rattle.calls.specs.Texts.{writtenOver};
 ghost use Rattle.params.specs.Sheet.{isSheet};
 ghost use Rattle.params.specs.Inner.Inside.{keyEnd};
 ghost use Rattle.params.specs.Inner.Carried.{paramsAt};
-ghost use Rattle.params.specs.Filled.{standsFor, partBytes, partLength, filled};
+ghost use Rattle.params.specs.Filled.{standsFor, partLength, bytesFor, filled};
 
 // The length of what stands for a token.
 fn length_for(statement: &[u8], sheet: &[u8], params: Params, token: Token) -> usize
@@ -47,7 +47,7 @@ fn put_for(
     requires { ⌜ token .start + token .len ≤ length (now statement) ⌝ }
     requires { ⌜ at + partLength (standsFor (now statement) (now sheet) (params .index) token) ≤ length (now output) ⌝ }
     ensures { λ r. ⌜ r ≡ at + partLength (standsFor (now (statement .entry)) (now (sheet .entry)) (params .index) token) ⌝ }
-    ensures { λ _. ⌜ now (output .exit) ≡ sets (now (output .entry)) at (partBytes (now (statement .entry)) (now (sheet .entry)) (standsFor (now (statement .entry)) (now (sheet .entry)) (params .index) token)) ⌝ }
+    ensures { λ _. ⌜ now (output .exit) ≡ sets (now (output .entry)) at (bytesFor (now (statement .entry)) (now (sheet .entry)) (params .index) token) ⌝ }
 {
     let part = stands_for(statement, sheet, params, token);
     put_part(statement, sheet, part, output, at);
@@ -80,7 +80,7 @@ pub fn write_filled(statement: &[u8], settings: Settings, sheet: &[u8], output: 
     requires { ⌜ length (now statement) ≤ 65536 ⌝ }
     requires { ⌜ isSheet (now sheet) ≡ true ⌝ }
     requires { ⌜ length (filled settings (now statement) (now sheet)) ≤ length (now output) ⌝ }
-    ensures { λ _. ⌜ now (output .exit) ≡ filled settings (now (statement .entry)) (now (sheet .entry)) ++ drop (length (filled settings (now (statement .entry)) (now (sheet .entry)))) (now (output .entry)) ⌝ }
+    ensures { λ _. ⌜ now (output .exit) ≡ writtenOver (filled settings (now (statement .entry)) (now (sheet .entry))) (now (output .entry)) ⌝ }
 {
     let mut at = 0;
     let mut params = params_at(sheet, 0);

@@ -8,9 +8,9 @@ use tokenizer::Step;
 use tokenizer::at_start;
 use tokenizer::next_step;
 ghost use mathlib.Core.Path.{_≡_};
-ghost use mathlib.Core.List.{_++_};
 ghost use Prim.Native.Nat.{_≤_};
-ghost use lib.ListN.{length, drop};
+ghost use lib.ListN.{length};
+ghost use Rattle.calls.specs.Texts.{writtenOver};
 ghost use Rattle.tight.specs.TightText.{tight};
 
 pub fn tight_length(statement: &[u8], settings: Settings) -> usize
@@ -38,7 +38,7 @@ pub fn tight_length(statement: &[u8], settings: Settings) -> usize
 pub fn write_tight(statement: &[u8], settings: Settings, output: &mut [u8]) -> usize
     requires { ⌜ length (tight settings (now statement)) ≤ length (now output) ⌝ }
     ensures { λ r. ⌜ r ≡ length (tight settings (now (statement .entry))) ⌝ }
-    ensures { λ _. ⌜ now (output .exit) ≡ tight settings (now (statement .entry)) ++ drop (length (tight settings (now (statement .entry)))) (now (output .entry)) ⌝ }
+    ensures { λ _. ⌜ now (output .exit) ≡ writtenOver (tight settings (now (statement .entry))) (now (output .entry)) ⌝ }
 {
     let mut at = 0;
     let mut spacing = before_first();
