@@ -9,7 +9,7 @@ The second form lays the lists of specs/ beside those of the second reading
 (tools/reading.py), which were typed from the Rust by themselves, and says which
 phrases only one of them has.
 
-`entries` in Entries.antt names the lists in the order of trying, each with its
+`entries` in Inner/Entries.antt names the lists in the order of trying, each with its
 group's letter. A list is made of the items below, with `∷` or `++` between them;
 at any other item this program stops. That the tables hold the lists is proved
 (proofs/tables/find_phrase): nothing rests on this program.
@@ -36,7 +36,7 @@ class Lists:
     """The lists of specs/, as (has IF EXISTS behind it or not, words) each"""
 
     def __init__(self):
-        self.text = "\n".join(path.read_text(encoding="utf-8") for path in sorted(SPECS.glob("*.antt")))
+        self.text = "\n".join(path.read_text(encoding="utf-8") for path in sorted(SPECS.rglob("*.antt")))
         defined = r"^unfoldable pub (\w+) : List (?:Phrase|\(List ℕ\))\n\1 =(.*(?:\n .*)*)"
         self.bodies = dict(re.findall(defined, self.text, re.MULTILINE))
         self.dropped = self.one(r'^eachDropped \(last ∷ lasts\) = phraseIfExists \(bytes "([^"]*)" \+\+ last\)')

@@ -125,7 +125,7 @@ fn proof(class: &Class, ranges: &[Range]) -> String {
     writeln!(out, "-- Each arm looks in the part of the table that serves its code points. Made by tools/tables.rs.").unwrap();
     writeln!(out, "-- Assumes nothing.").unwrap();
     writeln!(out, "use native.Mathlib.Omega.{{arith}}\nuse mathlib.Core.Path.{{refl}}\nuse borrow.Author.Needs.{{needs}}").unwrap();
-    writeln!(out, "use Rattle.unicode.specs.Ranges.{{endsOf}}\nuse Rattle.unicode.specs.{file}.{{{definition}}}").unwrap();
+    writeln!(out, "use Rattle.unicode.specs.Inner.Ends.{{endsOf}}\nuse Rattle.unicode.specs.{file}.{{{definition}}}").unwrap();
     writeln!(out, "use Rattle.unicode.proofs.Ordered.{{{law}}}\nuse Rattle.unicode.proofs.TableParts.{{{laws}}}").unwrap();
     writeln!(out, "use Rattle.unicode.proofs.{module}.contains.Statement.{{statement}}").unwrap();
     writeln!(out, "use Rattle.unicode.proofs.{module}.contains.Tie as tie\n").unwrap();

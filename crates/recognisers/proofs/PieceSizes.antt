@@ -29,7 +29,8 @@ use Rattle.recognisers.specs.declared.Recognised.{Recognised}
 use Rattle.recognisers.specs.declared.Recognised.the-variants.{Token, Nothing}
 use Rattle.recognisers.specs.Text.{byte, bytes}
 use Rattle.recognisers.specs.Taking.{Taker, taken, more, or, done, one, spelled, typed, capital, blanks, endOfWord, digit0, digit1, count, isDigit, atLeast, contains, startsWith}
-use Rattle.recognisers.specs.Pieces.{tokenOf, alt, keyStart}
+use Rattle.recognisers.specs.Pieces.{tokenOf, alt}
+use Rattle.recognisers.specs.Inner.Starts.{keyStart}
 use Rattle.recognisers.specs.Comment.{tillLineEnding, throughBlockEnd, getCommentToken}
 use Rattle.recognisers.specs.TypeSpecifier.{getTypeSpecifierToken}
 use Rattle.recognisers.specs.Strings.{closedBy, inSQLServer, hexTaken, quotedTaken, stringTaken, getStringToken, placeholderQuotedTaken, placeholderStringTaken}

@@ -27,7 +27,8 @@ use Rattle.recognisers.specs.declared.TokenKind.the-variants.{Placeholde
 use Rattle.recognisers.specs.declared.Recognised.the-variants.{Token, Nothing}
 use Rattle.recognisers.specs.Text.{bytes}
 use Rattle.recognisers.specs.Pieces.{piece}
-use Rattle.recognisers.specs.Taking.{taken, more, done, one, typed, spelled, digit1, contains, startsAmong, startsWith}
+use Rattle.recognisers.specs.Taking.{taken, more, done, one, typed, spelled, digit1, contains, startsWith}
+use Rattle.recognisers.specs.Inner.Starts.{startsAmong}
 use Rattle.recognisers.specs.Strings.{closedBy, inSQLServer, placeholderQuotedTaken, placeholderStringTaken}
 use Rattle.recognisers.specs.Placeholder.{numberFrom, numberOf, indexed, indexedKey, indexedTaken, placeholderName, identTaken, throughBrace, bracedText, bracedTaken, hasEscape, stringKey, stringNamedTaken, getIndexedPlaceholderToken, getIdentNamedPlaceholderToken, getBracedNamedPlaceholderToken, getStringNamedPlaceholderToken}
 use Rattle.recognisers.proofs.TakenInside.{Inside, or-inside, done-inside, one-inside, spelled-inside, cond-inside, fits-more}

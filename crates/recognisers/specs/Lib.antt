@@ -11,3 +11,4 @@ pub mod Parens
 pub mod Placeholder
 pub mod Number
 pub mod Words
+pub mod Inner

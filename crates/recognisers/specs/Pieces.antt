@@ -4,7 +4,7 @@ use Rattle.recognisers.specs.declared.Taken.{Taken}
 use Rattle.recognisers.specs.declared.Taken.the-variants.{Bytes, Fails}
 use Rattle.recognisers.specs.declared.TokenKind.{TokenKind}
 use Rattle.recognisers.specs.declared.Key.{Key}
-use Rattle.recognisers.specs.declared.Key.the-variants.{None, Named, Escaped, ZeroIndexed, OneIndexed}
+use Rattle.recognisers.specs.declared.Key.the-variants.{None}
 use Rattle.recognisers.specs.declared.Piece.{Piece}
 use Rattle.recognisers.specs.declared.Recognised.{Recognised}
 use Rattle.recognisers.specs.declared.Recognised.the-variants.{Token, Nothing}
@@ -22,11 +22,3 @@ tokenOf kind Fails = Nothing
 abbrev pub alt : Recognised → Recognised → Recognised
 alt (Token p) other = Token p
 alt Nothing other = other
-
--- where a key's text starts
-abbrev pub keyStart : Key → ℕ
-keyStart None = 0
-keyStart (Named start len) = start
-keyStart (Escaped start len) = start
-keyStart (ZeroIndexed n) = 0
-keyStart (OneIndexed n) = 0

@@ -98,11 +98,6 @@ unfoldable pub contains : List ℕ → ℕ → Bool
 contains [] b = false
 contains (e ∷ bytes) b = eqb b e || contains bytes b
 
--- one of the bytes stands at the start
-unfoldable pub startsAmong : List ℕ → List ℕ → Bool
-startsAmong bytes [] = false
-startsAmong bytes (b ∷ s) = contains bytes b
-
 -- the byte stands at the start
 unfoldable pub startsWith : ℕ → List ℕ → Bool
 startsWith b [] = false

@@ -9,7 +9,8 @@ ghost use Prim.Native.Nat.{_+_, _^_, _<_};
 ghost use lib.Dec.{eqb};
 ghost use mathlib.Core.Bool.{_&&_};
 ghost use lib.ListN.{length, drop};
-ghost use Rattle.recognisers.specs.Taking.{taken, more, or, done, literal, caseless, typed, capital, isSpelled, endOfWord, isDigit, count, atLeast, contains, startsAmong, startsWith};
+ghost use Rattle.recognisers.specs.Taking.{taken, more, or, done, literal, caseless, typed, capital, isSpelled, endOfWord, isDigit, count, atLeast, contains, startsWith};
+ghost use Rattle.recognisers.specs.Inner.Starts.{startsAmong};
 ghost use Rattle.recognisers.specs.Pieces.{tokenOf, alt};
 
 pub fn is_among(bytes: &[u8], b: u8) -> bool

@@ -25,7 +25,7 @@ use Rattle.reserved.specs.Newline.{newlinePhrases}
 use Rattle.reserved.specs.Join.{joinPhrases}
 use Rattle.reserved.specs.NoIndent.{noIndentPhrases}
 use Rattle.reserved.specs.Plain.{plainTwoPhrases, plainOnePhrases, plainA, plainB, plainC, plainD, plainE, plainF, plainG, plainH, plainI, plainK, plainL, plainM, plainN, plainO, plainP, plainQ, plainR, plainS, plainT, plainU, plainV, plainW, plainY}
-use Rattle.reserved.specs.Entries.{grouped, entries, ifExists, ending, entryEnd, chosen, findEntry, tokenFor}
+use Rattle.reserved.specs.Inner.Entries.{grouped, entries, ifExists, ending, entryEnd, chosen, findEntry, tokenFor}
 use Rattle.reserved.specs.Reserved.{topLevelToken, newlineToken, getTopLevelReservedToken, getNewlineAfterReservedToken, getNewlineReservedToken, getJoinToken, getTopLevelReservedTokenNoIndent, getPlainReservedToken, mayBeReserved, getReservedWordToken}
 use Rattle.reserved.proofs.PhraseWalk.{walk-inside, ending-inside}
 

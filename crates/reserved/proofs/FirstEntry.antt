@@ -23,7 +23,7 @@ use Rattle.reserved.specs.Newline.{newlinePhrases}
 use Rattle.reserved.specs.Join.{joinPhrases}
 use Rattle.reserved.specs.NoIndent.{noIndentPhrases}
 use Rattle.reserved.specs.Plain.{plainTwoPhrases, plainOnePhrases, plainA, plainB, plainC, plainD, plainE, plainF, plainG, plainH, plainI, plainK, plainL, plainM, plainN, plainO, plainP, plainQ, plainR, plainS, plainT, plainU, plainV, plainW, plainY}
-use Rattle.reserved.specs.Entries.{grouped, entries, entryEnd, chosen, findEntry, encoded, entriesOf, tableFind}
+use Rattle.reserved.specs.Inner.Entries.{grouped, entries, entryEnd, chosen, findEntry, encoded, entriesOf, tableFind}
 
 -- ---- the loop of `find_in`
 

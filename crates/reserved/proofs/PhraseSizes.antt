@@ -21,7 +21,7 @@ use Rattle.recognisers.proofs.TakenInside.{Inside, end-of-word-inside}
 use Rattle.recognisers.proofs.PieceSizes.{Least, one-some, Sized, alt-sized, Takes, or-takes, fails-takes, takes-sized}
 use Rattle.reserved.specs.declared.TopLevel.{TopLevel}
 use Rattle.reserved.specs.Phrases.{Phrase, phrase, phraseIfExists, walk, phraseEnd, firstPhrase, each}
-use Rattle.reserved.specs.Entries.{ifExists}
+use Rattle.reserved.specs.Inner.Entries.{ifExists}
 use Rattle.reserved.specs.TopLevel.{creatable, alterableOrDroppable, eachDropped, topLevelPhrases}
 use Rattle.reserved.specs.NewlineAfter.{newlineAfterPhrases}
 use Rattle.reserved.specs.Newline.{newlinePhrases}

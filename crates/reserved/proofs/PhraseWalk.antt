@@ -28,7 +28,7 @@ use Rattle.recognisers.proofs.Blanks.{blanks-none, blanks-then, blanks-inside}
 use Rattle.reserved.specs.Phrases.{Phrase, phrase, phraseIfExists, walk, after, optional}
 use Rattle.reserved.specs.UcChoices.{behind}
 use Rattle.reserved.proofs.Behind.{behind-behind, behind-same, bytes-behind}
-use Rattle.reserved.specs.Entries.{ifExists, ending, entryEnd}
+use Rattle.reserved.specs.Inner.Entries.{ifExists, ending, entryEnd}
 
 abbrev pub wordsOf : Phrase → List ℕ
 wordsOf (phrase words) = words

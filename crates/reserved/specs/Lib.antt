@@ -10,4 +10,4 @@ pub mod Reserved
 pub mod UcWords
 pub mod UcChoices
 pub mod UcReserved
-pub mod Entries
+pub mod Inner

@@ -9,7 +9,7 @@ ghost use mathlib.Core.Path.{_≡_};
 ghost use mathlib.Core.List.{[], _∷_};
 ghost use Rattle.recognisers.specs.Taking.{done};
 ghost use Rattle.reserved.specs.Phrases.{walk};
-ghost use Rattle.reserved.specs.Entries.{ifExists, ending, entryEnd, tableFind};
+ghost use Rattle.reserved.specs.Inner.Entries.{ifExists, ending, entryEnd, tableFind};
 
 // The byte of a phrase at the start of the rest: any whitespace for a space, else a letter in either case.
 fn word_step(rest: &[u8], w: u8) -> Taken

@@ -4,7 +4,7 @@ use crate::find::find_in;
 use crate::phrases;
 use recognisers::capital_of;
 ghost use mathlib.Core.Path.{_≡_};
-ghost use Rattle.reserved.specs.Entries.{entries, findEntry};
+ghost use Rattle.reserved.specs.Inner.Entries.{entries, findEntry};
 
 // The first phrase that stands at the start of the rest.
 pub fn find_phrase(rest: &[u8]) -> FoundPhrase

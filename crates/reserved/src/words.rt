@@ -22,7 +22,7 @@ ghost use Rattle.recognisers.specs.Same.{same};
 ghost use Rattle.recognisers.specs.Taking.{typed, isSpelled, capital};
 ghost use Rattle.recognisers.specs.declared.Taken.the-variants.{Bytes};
 ghost use Rattle.reserved.specs.Reserved.{isSelect, isUpdate, takesUsing, topLevelKind, aliasLength, topLevelToken, newlineToken, mayBeReserved, getReservedWordToken};
-ghost use Rattle.reserved.specs.Entries.{entries, findEntry, tokenFor};
+ghost use Rattle.reserved.specs.Inner.Entries.{entries, findEntry, tokenFor};
 
 fn is_select(last: TopLevel) -> bool
     ensures { λ r. ⌜ r ≡ isSelect last ⌝ }

@@ -13,7 +13,7 @@ use recognisers::is_kind;
 use reserved::TopLevel;
 ghost use mathlib.Core.Path.{_≡_};
 ghost use Prim.Native.Nat.{_+_, _^_, _<_};
-ghost use Rattle.recognisers.specs.Pieces.{keyStart};
+ghost use Rattle.recognisers.specs.Inner.Starts.{keyStart};
 ghost use Rattle.tokenizer.specs.Memory.{start};
 ghost use Rattle.tokenizer.specs.Tokens.{givenOut, placed, stepAt};
 

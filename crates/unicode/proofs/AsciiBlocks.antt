@@ -11,7 +11,7 @@ use lib.ListN.{length, drop, getD, drop-of-length-le}
 use lib.Seq.{drop-cons, drop-drop}
 use lib.Dec.{ltb}
 use borrow.Author.Tests.{lt-ltb, le-ltb}
-use Rattle.unicode.specs.Blocks.{asciiRun, allAscii, AsciiUpTo}
+use Rattle.unicode.specs.Inner.Blocks.{asciiRun, allAscii, AsciiUpTo}
 
 -- ---- four bytes and sixteen
 

@@ -14,7 +14,7 @@ use mir.Val.{Fits}
 use borrow.Author.Tests.{lt-ltb, le-ltb, le-leb, ltb-true}
 use Rattle.unicode.specs.declared.IllFormed.the-variants.{At, Nowhere}
 use Rattle.unicode.specs.Ranges.{within}
-use Rattle.unicode.specs.Blocks.{asciiRun}
+use Rattle.unicode.specs.Inner.Blocks.{asciiRun}
 use Rattle.unicode.specs.Utf8.{table-3-7, fitsRow, sequenceIn, sequenceLength, wellFormedFrom, firstIllFormed}
 use Rattle.unicode.proofs.SequenceRows.{Rows}
 use Rattle.unicode.proofs.Rests.{part-end}

@@ -10,7 +10,7 @@ use mathlib.Core.Bool.{true, and-eq-true-iff}
 use lib.ListN.{length, getD}
 use lib.Dec.{eqb, leb}
 use borrow.Author.Tests.{leb-true, le-leb, lt-leb, lt-ltb, le-ltb}
-use Rattle.unicode.specs.Ranges.{ascending, inEnds, EndsUpTo}
+use Rattle.unicode.specs.Inner.Ends.{ascending, inEnds, EndsUpTo}
 
 pub ascends : (ends : List ℕ) → ascending ends ≡ true → (p q : ℕ) → p ≤ q → q < length ends → getD ends p 0 ≤ getD ends q 0
 unfolding ascending

@@ -9,7 +9,8 @@ use mathlib.Core.Bool.{Bool, true, false, _&&_, _||_, and-eq-true-iff}
 use lib.ListN.{take, drop}
 use lib.Dec.{leb, ltb, leb·suc-suc}
 use borrow.Author.Tests.{leb-true, ltb-true, le-leb, lt-leb}
-use Rattle.unicode.specs.Ranges.{within, inRanges, ordered, endsOf, inEnds, ascending}
+use Rattle.unicode.specs.Ranges.{within, inRanges, ordered}
+use Rattle.unicode.specs.Inner.Ends.{endsOf, inEnds, ascending}
 
 abbrev pub Ranges : Type 0
 Ranges = List (ℕ × ℕ)

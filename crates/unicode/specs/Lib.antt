@@ -9,5 +9,5 @@ pub mod Classes
 pub mod Ascii
 pub mod Utf8
 pub mod Character
-pub mod Blocks
 pub mod Runs
+pub mod Inner

@@ -2,7 +2,7 @@
 ghost use mathlib.Core.Path.{_≡_};
 ghost use mathlib.Core.Bool.{true};
 ghost use Prim.Native.Nat.{_+_};
-ghost use Rattle.unicode.specs.Ranges.{inEnds, ascending, EndsUpTo};
+ghost use Rattle.unicode.specs.Inner.Ends.{inEnds, ascending, EndsUpTo};
 
 // How many of the ends are at most c.
 fn ends_up_to(ends: &[u32], c: u32) -> usize

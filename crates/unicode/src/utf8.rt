@@ -5,7 +5,7 @@ ghost use mathlib.Core.Bool.{cond};
 ghost use mathlib.Core.List.{[], _∷_};
 ghost use Prim.Native.Nat.{_+_, _≤_};
 ghost use lib.ListN.{length, drop};
-ghost use Rattle.unicode.specs.Blocks.{asciiRun, allAscii, AsciiUpTo};
+ghost use Rattle.unicode.specs.Inner.Blocks.{asciiRun, allAscii, AsciiUpTo};
 ghost use Rattle.unicode.specs.Utf8.{fitsRow, sequenceLength, firstIllFormed};
 
 // Four bytes from i on are ASCII.

@@ -3,7 +3,7 @@
 use native.Mathlib.Omega.{arith}
 use mathlib.Core.Path.{refl}
 use borrow.Author.Needs.{needs}
-use Rattle.unicode.specs.Ranges.{endsOf}
+use Rattle.unicode.specs.Inner.Ends.{endsOf}
 use Rattle.unicode.specs.Mark.{mark}
 use Rattle.unicode.proofs.Ordered.{mark-ordered}
 use Rattle.unicode.proofs.TableParts.{part-is, last-part-is}

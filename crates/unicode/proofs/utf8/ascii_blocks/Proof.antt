@@ -1,7 +1,7 @@
 use Prim.Native.Nat.{_-_}
 use lib.ListN.{length}
 use borrow.Author.Needs.{needs}
-use Rattle.unicode.specs.Blocks.{AsciiUpTo}
+use Rattle.unicode.specs.Inner.Blocks.{AsciiUpTo}
 use Rattle.unicode.proofs.AsciiBlocks.{ascii-start, ascii-block}
 use Rattle.unicode.proofs.utf8.ascii_blocks.Statement.{statement}
 use Rattle.unicode.proofs.utf8.ascii_blocks.Tie as tie

@@ -3,7 +3,7 @@
 use native.Mathlib.Omega.{arith}
 use mathlib.Core.Path.{refl}
 use borrow.Author.Needs.{needs}
-use Rattle.unicode.specs.Ranges.{endsOf}
+use Rattle.unicode.specs.Inner.Ends.{endsOf}
 use Rattle.unicode.specs.WhiteSpace.{whiteSpace}
 use Rattle.unicode.proofs.Ordered.{white-space-ordered}
 use Rattle.unicode.proofs.TableParts.{last-part-is}

@@ -1,4 +1,4 @@
--- ASCII bytes at the start of some bytes, by which validation goes quickly.
+-- For inner contracts alone: ASCII bytes at the start of some bytes, by which validation goes quickly.
 use Prim.Native.Nat.{ℕ, zero, suc, _+_, _≤_}
 use mathlib.Core.Path.{_≡_}
 use mathlib.Core.Bool.{Bool, true, false, cond, _&&_}

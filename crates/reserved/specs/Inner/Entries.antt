@@ -1,4 +1,5 @@
--- All phrases in the order in which they are tried, each with the letter of its group, and as the bytes of a table.
+-- For inner contracts alone: all phrases in the order in which they are tried, each with the letter of its group, and as the
+-- bytes of a table.
 use Prim.Native.Nat.{ℕ, zero, suc}
 use mathlib.Core.Bool.{Bool, true, false, cond, _||_}
 use mathlib.Core.List.{List, [], _∷_, _++_}
