@@ -1,5 +1,5 @@
 // Prints the tables of the crate `unicode`: for each class its ranges as specs/ has them, its const
-// arrays as src/ has them, and the proof that the arrays hold the ranges; and the ASCII table.
+// arrays as src/ has them, and the proof that the arrays hold the ranges.
 //
 //     tables DIR      writes the files below DIR, the folder of the crate
 //     tables sweep    prints the ranges of every class, as the program `sweep` is to print them
@@ -158,24 +158,6 @@ fn proof(class: &Class, ranges: &[Range]) -> String {
     out
 }
 
-// The 128-entry table, by the numbers of specs/Ascii.antt.
-fn ascii() -> String {
-    let mut out = String::new();
-    writeln!(out, "// The classes of the 128 ASCII characters. Made by tools/tables.rs.").unwrap();
-    writeln!(out, "ghost use mathlib.Core.Path.{{_≡_}};").unwrap();
-    writeln!(out, "ghost use Rattle.unicode.specs.Ascii.{{asciiKinds}};\n").unwrap();
-    writeln!(out, "pub const WHITE_SPACE: u8 = 1;\npub const ALPHABETIC: u8 = 2;\npub const NUMERIC: u8 = 3;\npub const CONNECTOR: u8 = 4;\n").unwrap();
-    writeln!(out, "const KINDS: [u8; 128] = [").unwrap();
-    for c in (0..128).filter_map(char::from_u32) {
-        let tests = [c.is_whitespace(), c.is_alphabetic(), c.is_numeric(), c.is_punctuation_connector()];
-        writeln!(out, "    {},", tests.iter().position(|t| *t).map_or(0, |i| i + 1)).unwrap();
-    }
-    writeln!(out, "];\n").unwrap();
-    writeln!(out, "// The table, for a loop to evaluate once.\npub fn kinds() -> [u8; 128]").unwrap();
-    writeln!(out, "    ensures {{ λ r. ⌜ r ≡ asciiKinds ⌝ }}\n{{\n    KINDS\n}}").unwrap();
-    out
-}
-
 // What the program `sweep` is to print, from the predicates that 000 itself calls.
 fn sweep() {
     let word = |c: char| c.is_alphanumeric() || c.is_mark() || c.is_punctuation_connector();
@@ -203,7 +185,6 @@ fn main() {
     if target == "sweep" {
         return sweep();
     }
-    fs::write(format!("{target}/src/ascii.rt"), ascii()).unwrap();
     for class in classes() {
         let ranges = ranges(class.test);
         fs::write(format!("{target}/specs/{}.antt", class.file), spec(&class, &ranges)).unwrap();

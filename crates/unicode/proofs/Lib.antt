@@ -5,7 +5,7 @@ pub mod Ordered
 pub mod AsciiBlocks
 pub mod SequenceRows
 pub mod FirstIllFormed
-pub mod AsciiTable
+pub mod AsciiRule
 pub mod Decoding
 pub mod ShortCircuit
 pub mod Within

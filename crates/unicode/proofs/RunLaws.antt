@@ -5,16 +5,18 @@ use native.Mathlib.Nat.{le-of-suc-le-suc, not-suc-le-zero, add-zero, zero-add, s
 use native.Mathlib.Omega.{arith}
 use mathlib.Core.Path.{_≡_, refl, sym, ap, _∙_}
 use mathlib.Core.List.{List, [], _∷_}
-use mathlib.Core.Bool.{Bool, true, false, cond}
+use mathlib.Core.Bool.{Bool, true, false, cond, _&&_, and-eq-true-iff}
 use lib.ListN.{length, drop, getD, drop-of-length-le, length-drop}
 use lib.Seq.{drop-cons, drop-drop}
 use mir.Syntax.{w64}
 use mir.Val.{Fits}
-use borrow.Author.Tests.{lt-ltb}
+use lib.Dec.{ltb}
+use borrow.Author.Tests.{lt-ltb, ltb-true}
 use Rattle.unicode.specs.declared.Character.{Character}
 use Rattle.unicode.specs.Character.{isContinuation, continuations, continued, firstBits, withBits, codePoint, characterLength, character}
 use Rattle.unicode.specs.declared.Class.{Class}
 use Rattle.unicode.specs.Runs.{inClass, run}
+use Rattle.unicode.specs.Inner.RunAt.{RunAt}
 
 pub continued-inside : (n : ℕ) (s : List ℕ) → continued n s ≤ length s
 unfolding continued
@@ -81,14 +83,10 @@ module _ (class : Class) where
 
   -- ---- the loop
 
-  pub record RunAt (s : List ℕ) (i : ℕ) : Type 0 where
-    pub inside : i ≤ length s
-    pub same : run (inClass class) 0 s ≡ i + run (inClass class) 0 (drop i s)
-
-  pub run-start : (s : List ℕ) → RunAt s 0
+  pub run-start : (s : List ℕ) → RunAt class s 0
   run-start s = record { inside = zero-le; same = sym (zero-add (run (inClass class) 0 s)) }
 
-  module _ (s : List ℕ) (i n : ℕ) (at : RunAt s i) (h : i < length s) (e : n ≡ cond (inClass class (codePoint (drop i s))) (characterLength (drop i s)) 0) where
+  module _ (s : List ℕ) (i n : ℕ) (at : RunAt class s i) (h : i < length s) (e : n ≡ cond (inClass class (codePoint (drop i s))) (characterLength (drop i s)) 0) where
     some-left : 0 < length (drop i s)
     some-left = rw length-drop (omega arith)
 
@@ -102,10 +100,10 @@ module _ (class : Class) where
     pub run-fits : length s < 2 ^ 64 → Fits w64 (i + n)
     run-fits f = record { fits = let m = at-most in omega (arith, length-drop i s) }
 
-    pub run-more : (n ≡ 0 → ⊥) → RunAt s (i + n)
+    pub run-more : (n ≡ 0 → ⊥) → RunAt class s (i + n)
     run-more z = go (inClass class (codePoint (drop i s))) refl
       where
-        go : (t : Bool) → inClass class (codePoint (drop i s)) ≡ t → RunAt s (i + n)
+        go : (t : Bool) → inClass class (codePoint (drop i s)) ≡ t → RunAt class s (i + n)
         go true q =
             let m = at-most in
             let n-is : n ≡ characterLength (drop i s) = rw q at e in
@@ -124,7 +122,7 @@ module _ (class : Class) where
             absurd (let o = character-some (drop i s) some-left in let y : ⊥ = omega arith in y)
         go false q = sym (at .same ∙ rw (run-step (drop i s) some-left, q) (add-zero i))
 
-  pub run-end : (s : List ℕ) (i : ℕ) → RunAt s i → length s ≤ i → i ≡ run (inClass class) 0 s
+  pub run-end : (s : List ℕ) (i : ℕ) → RunAt class s i → length s ≤ i → i ≡ run (inClass class) 0 s
   unfolding run
   run-end s i at h = sym (at .same ∙ rw (drop-of-length-le s h) (add-zero i))
 
@@ -141,14 +139,25 @@ ascii-code s i h l = rw (drop-cons s i 0 h, lt-ltb (getD s i 0) 0xC0 (omega arit
 pub ascii-first : (b : ℕ) (s : List ℕ) → b < 128 → codePoint (b ∷ s) ≡ b
 ascii-first b s l = ascii-code (b ∷ s) 0 (suc-le-suc zero-le) l
 
--- as `step` uses them: r is what a class says of the character at i
+-- as `step` and `run_of` use them: r is what a class says of the character at i
 module _ (class : Class) (s : List ℕ) (i : ℕ) (h : i < length s) where
-  module _ (r : Bool) (l : getD s i 0 < 128) (e : r ≡ inClass class (getD s i 0)) where
+  module _ (r : Bool) (e : r ≡ (ltb (getD s i 0) 128 && inClass class (getD s i 0))) where
     pub step-ascii : r ≡ true → _≡_ {A = ℕ} 1 (cond (inClass class (codePoint (drop i s))) (characterLength (drop i s)) 0)
-    step-ascii t = rw (ascii-code s i h l, ← e, t, ascii-length s i h l)
+    step-ascii t =
+        let both = and-eq-true-iff (ltb (getD s i 0) 128) (inClass class (getD s i 0)) .0 (sym e ∙ t) in
+        let l = ltb-true (getD s i 0) 128 (both .0) in
+        rw (ascii-code s i h l, both .1, ascii-length s i h l)
 
-    pub step-ascii-no : r ≡ false → _≡_ {A = ℕ} 0 (cond (inClass class (codePoint (drop i s))) (characterLength (drop i s)) 0)
-    step-ascii-no t = rw (ascii-code s i h l, ← e, t)
+    pub step-ascii-no : r ≡ false → getD s i 0 < 128 → _≡_ {A = ℕ} 0 (cond (inClass class (codePoint (drop i s))) (characterLength (drop i s)) 0)
+    step-ascii-no t l =
+        let no : inClass class (getD s i 0) ≡ false = sym (rw (lt-ltb (getD s i 0) 128 l) at e) ∙ t in
+        rw (ascii-code s i h l, no)
+
+    pub byte-more : RunAt class s i → r ≡ true → RunAt class s (i + 1)
+    byte-more at t = run-more class s i 1 at h (step-ascii t) (λ z. omega arith)
+
+    pub byte-stop : RunAt class s i → r ≡ false → getD s i 0 < 128 → i ≡ run (inClass class) 0 s
+    byte-stop at t l = run-stop class s i 0 at h (step-ascii-no t l) refl
 
   module _ (x : Character) (r : Bool) (q : x ≡ character (drop i s)) (e : r ≡ inClass class (x .«code_point»)) where
     pub step-wide : r ≡ true → x .len ≡ cond (inClass class (codePoint (drop i s))) (characterLength (drop i s)) 0

@@ -1,6 +1,7 @@
 // The classes of a code point, under the names of Rust's `char` and of src/tokenizer.rs.
 use crate::alphabetic;
 use crate::ascii;
+use crate::ascii::ascii_kind;
 use crate::connector;
 use crate::mark;
 use crate::numeric;
@@ -9,15 +10,6 @@ ghost use mathlib.Core.Path.{_≡_};
 ghost use Prim.Native.Nat.{_<_};
 ghost use Rattle.unicode.specs.Ascii.{asciiKind};
 ghost use Rattle.unicode.specs.Classes.{isWhitespace, isAlphabetic, isNumeric, isMark, isPunctuationConnector, isAlphanumeric, isWordCharacter, isPlaceholderNameCharacter};
-
-// The number of the class that an ASCII character has, 0 where it has none.
-fn ascii_kind(c: u32) -> u8
-    requires { ⌜ c < 128 ⌝ }
-    ensures { λ r. ⌜ r ≡ asciiKind c ⌝ }
-{
-    let kinds = ascii::kinds();
-    kinds[c as usize]
-}
 
 pub fn is_whitespace(c: u32) -> bool
     ensures { λ r. ⌜ r ≡ isWhitespace c ⌝ }

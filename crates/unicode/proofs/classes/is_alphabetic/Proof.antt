@@ -1,6 +1,6 @@
 use borrow.Author.Needs.{needs}
 use Rattle.unicode.specs.Classes.{isAlphabetic}
-use Rattle.unicode.proofs.AsciiTable.{ascii-alphabetic}
+use Rattle.unicode.proofs.AsciiRule.{ascii-alphabetic}
 use Rattle.unicode.proofs.classes.is_alphabetic.Statement.{statement}
 use Rattle.unicode.proofs.classes.is_alphabetic.Tie as tie
 

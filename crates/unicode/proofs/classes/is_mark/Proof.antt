@@ -1,6 +1,6 @@
 use borrow.Author.Needs.{needs}
 use Rattle.unicode.specs.Classes.{isMark}
-use Rattle.unicode.proofs.AsciiTable.{ascii-mark}
+use Rattle.unicode.proofs.AsciiRule.{ascii-mark}
 use Rattle.unicode.proofs.classes.is_mark.Statement.{statement}
 use Rattle.unicode.proofs.classes.is_mark.Tie as tie
 

@@ -1,6 +1,6 @@
 use borrow.Author.Needs.{needs}
 use Rattle.unicode.specs.Classes.{isNumeric}
-use Rattle.unicode.proofs.AsciiTable.{ascii-numeric}
+use Rattle.unicode.proofs.AsciiRule.{ascii-numeric}
 use Rattle.unicode.proofs.classes.is_numeric.Statement.{statement}
 use Rattle.unicode.proofs.classes.is_numeric.Tie as tie
 

@@ -1,6 +1,6 @@
 use borrow.Author.Needs.{needs}
 use Rattle.unicode.specs.Classes.{isPunctuationConnector}
-use Rattle.unicode.proofs.AsciiTable.{ascii-connector}
+use Rattle.unicode.proofs.AsciiRule.{ascii-connector}
 use Rattle.unicode.proofs.classes.is_punctuation_connector.Statement.{statement}
 use Rattle.unicode.proofs.classes.is_punctuation_connector.Tie as tie
 

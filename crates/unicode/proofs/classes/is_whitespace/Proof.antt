@@ -1,6 +1,6 @@
 use borrow.Author.Needs.{needs}
 use Rattle.unicode.specs.Classes.{isWhitespace}
-use Rattle.unicode.proofs.AsciiTable.{ascii-whitespace}
+use Rattle.unicode.proofs.AsciiRule.{ascii-whitespace}
 use Rattle.unicode.proofs.classes.is_whitespace.Statement.{statement}
 use Rattle.unicode.proofs.classes.is_whitespace.Tie as tie
 

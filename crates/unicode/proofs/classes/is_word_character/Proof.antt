@@ -1,7 +1,7 @@
 use borrow.Author.Needs.{needs}
 use Rattle.unicode.proofs.ShortCircuit.{or-first, or-second}
 use Rattle.unicode.specs.Classes.{isWordCharacter}
-use Rattle.unicode.proofs.AsciiTable.{ascii-word}
+use Rattle.unicode.proofs.AsciiRule.{ascii-word}
 use Rattle.unicode.proofs.classes.is_word_character.Statement.{statement}
 use Rattle.unicode.proofs.classes.is_word_character.Tie as tie
 

@@ -1,39 +1,46 @@
 use Prim.Native.Nat.{_-_}
 use lib.ListN.{length}
 use borrow.Author.Needs.{needs}
-use Rattle.unicode.proofs.RunLaws.{RunAt, run-start, run-fits, run-more, run-stop, run-end}
+use Rattle.unicode.specs.Inner.RunAt.{RunAt}
+use Rattle.unicode.proofs.RunLaws.{run-start, byte-more, byte-stop, run-end}
 use Rattle.unicode.proofs.runs.run_of.Statement.{statement}
 use Rattle.unicode.proofs.runs.run_of.Tie as tie
 
 abbrev Inv-loop : tie.InvT-loop
-Inv-loop bytes class kinds i₀ i = RunAt class bytes i
+Inv-loop bytes class i₀ i = RunAt class bytes i
 
 abbrev μ-loop : tie.MeasureT-loop
-μ-loop bytes class kinds i₀ i = length bytes - i
-
-kinds-requires : tie.Need-kinds-requires Inv-loop μ-loop
-kinds-requires c κs = search needs
+μ-loop bytes class i₀ i = length bytes - i
 
 loop-holds : tie.Need-loop-holds Inv-loop μ-loop
 loop-holds c = search run-start
 
-step-requires : tie.Need-step-requires Inv-loop μ-loop
-step-requires c κs = search needs
+shared-slice-read-b : tie.Need-shared-slice-read-b Inv-loop μ-loop
+shared-slice-read-b c = search needs
 
-returns : tie.Need-returns Inv-loop μ-loop
-returns c = search run-stop
+ascii-contains-requires : tie.Need-ascii-contains-requires Inv-loop μ-loop
+ascii-contains-requires c κs = search needs
 
 add-i : tie.Need-add-i Inv-loop μ-loop
-add-i c = search run-fits
+add-i c = search needs
 
 loop-less : tie.Need-loop-less Inv-loop μ-loop
 loop-less c = search needs
 
 loop-again : tie.Need-loop-again Inv-loop μ-loop
-loop-again c = search run-more
+loop-again c = search byte-more
+
+returns : tie.Need-returns Inv-loop μ-loop
+returns c = search byte-stop
+
+rest-of-run-requires : tie.Need-rest-of-run-requires Inv-loop μ-loop
+rest-of-run-requires c κs = search needs
 
 returns-2 : tie.Need-returns-2 Inv-loop μ-loop
-returns-2 c = search run-end
+returns-2 c = search needs
+
+returns-3 : tie.Need-returns-3 Inv-loop μ-loop
+returns-3 c = search run-end
 
 pub run-of-spec : {M : Type 1} → statement M
 run-of-spec =
@@ -41,11 +48,13 @@ run-of-spec =
     (tie.spec
     Inv-loop
     μ-loop
-    kinds-requires
     loop-holds
-    step-requires
-    returns
+    shared-slice-read-b
+    ascii-contains-requires
     add-i
     loop-less
     loop-again
-    returns-2)
+    returns
+    rest-of-run-requires
+    returns-2
+    returns-3)

@@ -1,5 +1,4 @@
 use borrow.Author.Needs.{needs}
-use Rattle.unicode.proofs.AsciiTable.{kind-is}
 use Rattle.unicode.proofs.RunLaws.{step-ascii, step-ascii-no, step-wide, step-wide-no}
 use Rattle.unicode.proofs.runs.step.Statement.{statement}
 use Rattle.unicode.proofs.runs.step.Tie as tie
@@ -7,14 +6,8 @@ use Rattle.unicode.proofs.runs.step.Tie as tie
 shared-slice-read-b : tie.Need-shared-slice-read-b
 shared-slice-read-b c = search needs
 
-cast-at : tie.Need-cast-at
-cast-at c = search needs
-
-element-copy-out-ascii-contains : tie.Need-element-copy-out-ascii-contains
-element-copy-out-ascii-contains c = search needs
-
 ascii-contains-requires : tie.Need-ascii-contains-requires
-ascii-contains-requires c κs = search (kind-is, needs)
+ascii-contains-requires c κs = search needs
 
 returns : tie.Need-returns
 returns c = search step-ascii
@@ -39,8 +32,6 @@ step-spec =
     tie.close
     (tie.spec
     shared-slice-read-b
-    cast-at
-    element-copy-out-ascii-contains
     ascii-contains-requires
     returns
     returns-2
