@@ -19,6 +19,37 @@ use Rattle.unicode.specs.Classes.{isWhitespace, isAlphabetic, isNumeric,
 use Rattle.unicode.specs.Ascii.{isLetter, isSpace, asciiKind}
 use Rattle.unicode.proofs.Within.{above-not}
 
+-- ---- the computed test
+
+-- f passes at each number below n
+abbrev allBelow : (ℕ → Bool) → ℕ → Bool
+allBelow f zero = true
+allBelow f (suc n) = f n && allBelow f n
+
+below : (f : ℕ → Bool) (n : ℕ) → allBelow f n ≡ true → (k : ℕ) → k < n → f k ≡ true
+below f zero e k h = absurd (not-suc-le-zero h)
+below f (suc n) e k h =
+    let both = and-eq-true-iff (f n) (allBelow f n) .0 e in
+    ⊎-elim (λ q. rw q (both .0)) (λ l. below f n (both .1) k l) (eq-or-lt-of-le (le-of-suc-le-suc h))
+
+same : (a b : Bool) → Bool·beq a b ≡ true → a ≡ b
+same true true e = refl
+same true false e = sym e
+same false true e = e
+same false false e = refl
+
+-- the rule and the ranges say the same of a character, class by class
+abbrev agrees : ℕ → Bool
+agrees c =
+    Bool·beq (eqb (asciiKind c) 1) (isWhitespace c)
+    && (Bool·beq (eqb (asciiKind c) 2) (isAlphabetic c)
+    && (Bool·beq (eqb (asciiKind c) 3) (isNumeric c)
+    && (Bool·beq (eqb (asciiKind c) 4) (isPunctuationConnector c) && Bool·beq false (isMark c))))
+
+pub ascii-by-rule : allBelow agrees 128 ≡ true
+unfolding asciiKind isLetter isSpace isWhitespace isAlphabetic isNumeric isMark isPunctuationConnector inRanges within whiteSpace alphabetic numeric mark connector
+ascii-by-rule = refl
+
 -- ---- the number that the rule gives: each kind is asked for where those before it are not there
 
 module _ (c : ℕ) (letter : Bool) (l : letter ≡ isLetter c) where
@@ -61,37 +92,6 @@ rule-ascii : (c : ℕ) → 128 ≤ c → asciiKind c ≡ 0
 unfolding asciiKind isLetter isSpace
 rule-ascii c h =
     rw (above-not 0x41 0x5A c (omega arith), above-not 0x61 0x7A c (omega arith), above-not 0x30 0x39 c (omega arith), ne-eqb c 0x5F (λ e. omega arith), above-not 9 13 c (omega arith), ne-eqb c 32 (λ e. omega arith))
-
--- ---- the computed test
-
--- f passes at each number below n
-abbrev allBelow : (ℕ → Bool) → ℕ → Bool
-allBelow f zero = true
-allBelow f (suc n) = f n && allBelow f n
-
-below : (f : ℕ → Bool) (n : ℕ) → allBelow f n ≡ true → (k : ℕ) → k < n → f k ≡ true
-below f zero e k h = absurd (not-suc-le-zero h)
-below f (suc n) e k h =
-    let both = and-eq-true-iff (f n) (allBelow f n) .0 e in
-    ⊎-elim (λ q. rw q (both .0)) (λ l. below f n (both .1) k l) (eq-or-lt-of-le (le-of-suc-le-suc h))
-
-same : (a b : Bool) → Bool·beq a b ≡ true → a ≡ b
-same true true e = refl
-same true false e = sym e
-same false true e = e
-same false false e = refl
-
--- the rule and the ranges say the same of a character, class by class
-abbrev agrees : ℕ → Bool
-agrees c =
-    Bool·beq (eqb (asciiKind c) 1) (isWhitespace c)
-    && (Bool·beq (eqb (asciiKind c) 2) (isAlphabetic c)
-    && (Bool·beq (eqb (asciiKind c) 3) (isNumeric c)
-    && (Bool·beq (eqb (asciiKind c) 4) (isPunctuationConnector c) && Bool·beq false (isMark c))))
-
-pub ascii-by-rule : allBelow agrees 128 ≡ true
-unfolding asciiKind isLetter isSpace isWhitespace isAlphabetic isNumeric isMark isPunctuationConnector inRanges within whiteSpace alphabetic numeric mark connector
-ascii-by-rule = refl
 
 -- ---- below 128
 
