@@ -7,8 +7,6 @@ use crate::mark;
 use crate::numeric;
 use crate::white_space;
 ghost use mathlib.Core.Path.{_≡_};
-ghost use Prim.Native.Nat.{_<_};
-ghost use Rattle.unicode.specs.Ascii.{asciiKind};
 ghost use Rattle.unicode.specs.Classes.{isWhitespace, isAlphabetic, isNumeric, isMark, isPunctuationConnector, isAlphanumeric, isWordCharacter, isPlaceholderNameCharacter};
 
 pub fn is_whitespace(c: u32) -> bool
