@@ -20,7 +20,7 @@ use Rattle.recognisers.proofs.TakenInside.{Inside, fits-more}
 use Rattle.recognisers.proofs.CommentLoops.{PassedAt, passed-start, passed-more}
 
 -- the byte that stands at the start, so something does
-starts-some : (d : ℕ) (s : List ℕ) → startsWith d s ≡ true → 0 < length s
+pub starts-some : (d : ℕ) (s : List ℕ) → startsWith d s ≡ true → 0 < length s
 unfolding startsWith
 starts-some d [] e = absurd (false≢true e)
 starts-some d (c ∷ s) e = suc-le-suc zero-le

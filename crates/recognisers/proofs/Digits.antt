@@ -12,8 +12,7 @@ use borrow.Author.Tests.{le-leb}
 use Rattle.recognisers.specs.declared.Taken.{Taken}
 use Rattle.recognisers.specs.declared.Taken.the-variants.{Bytes, Fails}
 use Rattle.recognisers.specs.Text.{bytes}
-use Rattle.recognisers.specs.Taking.{Taker, more, or, done, one, typed, spelled, digit1, digit0, count, isDigit, atLeast, contains}
-use Rattle.recognisers.specs.Inner.Starts.{startsAmong}
+use Rattle.recognisers.specs.Taking.{Taker, more, or, done, one, typed, spelled, digit1, digit0, count, isDigit, atLeast, contains, startsAmong}
 use Rattle.recognisers.specs.Number.{decimalNumber, signedDigits, exponent, scientificNotation, unsigned}
 use Rattle.recognisers.proofs.ByteLoops.{count-inside}
 use Rattle.unicode.proofs.Rests.{part-end}

@@ -7,9 +7,11 @@ pub mod TakenInside
 pub mod MatchedAnswers
 pub mod CommentLoops
 pub mod ClosingQuote
+pub mod EscapedQuotes
 pub mod Blanks
 pub mod Digits
 pub mod PlaceholderLaws
 pub mod NationalKey
+pub mod EscapedExamples
 pub mod PieceSizes
 pub mod PieceBoundaries

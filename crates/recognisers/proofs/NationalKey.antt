@@ -8,14 +8,14 @@ use Rattle.recognisers.specs.declared.Key.the-variants.{Named}
 use Rattle.recognisers.specs.declared.TokenKind.the-variants.{Placeholder}
 use Rattle.recognisers.specs.declared.Recognised.the-variants.{Token}
 use Rattle.recognisers.specs.Text.{bytes}
-use Rattle.recognisers.specs.Taking.{one, spelled, typed, contains, startsWith}
+use Rattle.recognisers.specs.Taking.{one, spelled, typed, contains, startsWith, startsAmong}
 use Rattle.recognisers.specs.Pieces.{piece}
-use Rattle.recognisers.specs.Strings.{takeTillEscaping, closedBy, placeholderQuotedTaken, placeholderStringTaken}
-use Rattle.recognisers.specs.Placeholder.{hasEscape, stringKey, stringNamedTaken, getStringNamedPlaceholderToken}
+use Rattle.recognisers.specs.Strings.{takeTillEscaping, closedBy, placeholderQuotedTaken, placeholderStringTaken, pairsPassed, pairsIn, placeholderStringPairs}
+use Rattle.recognisers.specs.Placeholder.{hasEscape, stringKey, stringNamedTaken, stringNamedPairs, getStringNamedPlaceholderToken}
 
 -- six bytes, and a key of the three from the third on
 pub national-key : (dialect : Dialect) → getStringNamedPlaceholderToken dialect (bytes "@N'ab'") ≡ Token (piece Placeholder 6 (Named 2 3))
-unfolding one spelled typed contains startsWith takeTillEscaping closedBy placeholderQuotedTaken placeholderStringTaken hasEscape stringKey stringNamedTaken getStringNamedPlaceholderToken
+unfolding one spelled typed contains startsWith takeTillEscaping closedBy placeholderQuotedTaken placeholderStringTaken hasEscape stringKey stringNamedTaken pairsPassed pairsIn placeholderStringPairs stringNamedPairs startsAmong getStringNamedPlaceholderToken
 national-key Generic = refl
 national-key PostgreSql = refl
 national-key SQLServer = refl

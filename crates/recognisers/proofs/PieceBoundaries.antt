@@ -29,7 +29,7 @@ use Rattle.recognisers.specs.declared.Recognised.{Recognised}
 use Rattle.recognisers.specs.declared.Recognised.the-variants.{Token, Nothing}
 use Rattle.recognisers.specs.Text.{byte, bytes}
 use Rattle.recognisers.specs.Taking.{Taker, more, or, done, one, spelled, typed, capital, blanks, endOfWord, digit0, digit1, count, isDigit, atLeast, contains, startsWith}
-use Rattle.recognisers.specs.Pieces.{tokenOf, alt}
+use Rattle.recognisers.specs.Pieces.{tokenOf, quoteToken, alt}
 use Rattle.recognisers.specs.Comment.{tillLineEnding, throughBlockEnd, getCommentToken}
 use Rattle.recognisers.specs.TypeSpecifier.{getTypeSpecifierToken}
 use Rattle.recognisers.specs.Strings.{takeTillEscaping, closedBy, inSQLServer, hexTaken, quotedTaken, stringTaken, getStringToken, placeholderQuotedTaken, placeholderStringTaken}
@@ -253,6 +253,10 @@ pub alt-bounded : (s : List ℕ) (a b : Recognised) → Bounded s a → Bounded 
 alt-bounded s (Token p) b h l = h
 alt-bounded s Nothing b h l = l
 
+quote-bounded : (s : List ℕ) (kind : TokenKind) (key : ℕ → Key) (escaped : ℕ → ℕ) (t : Taken) → Leaves s t → Bounded s (quoteToken kind key escaped t)
+quote-bounded s kind key escaped (Bytes n) h = h .left
+quote-bounded s kind key escaped Fails h = tt
+
 pub token-bounded : (s : List ℕ) (kind : TokenKind) (t : Taken) → Leaves s t → Bounded s (tokenOf kind t)
 token-bounded s kind (Bytes n) h = h .left
 token-bounded s kind Fails h = tt
@@ -341,7 +345,7 @@ module _ (s : List ℕ) (w : wellFormed s ≡ true) where
   pub string-bounded : (dialect : Dialect) → Bounded s (getStringToken dialect s)
   unfolding getStringToken stringTaken
   string-bounded dialect =
-      token-bounded s K.String _
+      quote-bounded s K.String _ _ _
       (or-leaves s (spelled typed (bytes "`") (closedBy (byte "`") (bytes "`")) s) _ (quote (bytes "`") (byte "`") (bytes "`") refl (omega arith))
       (or-leaves s (inSQLServer dialect (spelled typed (bytes "[") (closedBy (byte "]") (bytes "]"))) s) _ (in-sql-server dialect) quoted-leaves))
 
@@ -431,7 +435,7 @@ module _ (s : List ℕ) (w : wellFormed s ≡ true) where
   string-named-bounded : (dialect : Dialect) → Bounded s (getStringNamedPlaceholderToken dialect s)
   unfolding getStringNamedPlaceholderToken stringNamedTaken
   string-named-bounded dialect =
-      keyed-bounded s (stringKey s) _ (one-cuts (contains (bytes "@:")) (contains-plain (bytes "@:") refl) (placeholderStringTaken dialect) (placeholder-string-cuts dialect) s w)
+      quote-bounded s K.Placeholder (stringKey s) _ _ (one-cuts (contains (bytes "@:")) (contains-plain (bytes "@:") refl) (placeholderStringTaken dialect) (placeholder-string-cuts dialect) s w)
 
   braced-bounded : Bounded s (getBracedNamedPlaceholderToken s)
   unfolding getBracedNamedPlaceholderToken bracedTaken

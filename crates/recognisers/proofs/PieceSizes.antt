@@ -1,12 +1,14 @@
--- Every token is at least one byte, lies inside the rest, and has its alias and its key's text inside it.
+-- Every token is at least one byte, lies inside the rest, has its alias and its key's text inside it, and two bytes at least for each
+-- escaped quote.
 -- Assumes nothing.
-use Prim.Native.Nat.{ℕ, zero, suc, _+_, _-_, _^_, _≤_, _<_, min, zero-le}
+use Prim.Native.Nat.{ℕ, zero, suc, _+_, _-_, _*_, _^_, _≤_, _<_, min, zero-le}
 use native.Mathlib.Nat.{le-refl, le-trans, min-le-left}
 use native.Mathlib.Omega.{arith}
 use mathlib.Core.Path.{_≡_, refl}
 use mathlib.Core.List.{List, [], _∷_}
 use mathlib.Core.Bool.{Bool, true, false, cond, _||_, false≢true}
 use lib.ListN.{length, drop, take, getD}
+use lib.Seq.{length-take-le}
 use lib.Dec.{leb, ltb, eqb}
 use borrow.Author.Tests.{leb-true, ltb-true}
 use Rattle.unicode.specs.Character.{characterLength}
@@ -29,19 +31,20 @@ use Rattle.recognisers.specs.declared.Recognised.{Recognised}
 use Rattle.recognisers.specs.declared.Recognised.the-variants.{Token, Nothing}
 use Rattle.recognisers.specs.Text.{byte, bytes}
 use Rattle.recognisers.specs.Taking.{Taker, taken, more, or, done, one, spelled, typed, capital, blanks, endOfWord, digit0, digit1, count, isDigit, atLeast, contains, startsWith}
-use Rattle.recognisers.specs.Pieces.{tokenOf, alt}
-use Rattle.recognisers.specs.Inner.Starts.{keyStart}
+use Rattle.recognisers.specs.Pieces.{tokenOf, quoteToken, alt}
+use Rattle.recognisers.specs.Inner.KeyStart.{keyStart}
 use Rattle.recognisers.specs.Comment.{tillLineEnding, throughBlockEnd, getCommentToken}
 use Rattle.recognisers.specs.TypeSpecifier.{getTypeSpecifierToken}
-use Rattle.recognisers.specs.Strings.{closedBy, inSQLServer, hexTaken, quotedTaken, stringTaken, getStringToken, placeholderQuotedTaken, placeholderStringTaken}
+use Rattle.recognisers.specs.Strings.{closedBy, inSQLServer, hexTaken, quotedTaken, stringTaken, stringPairs, getStringToken, placeholderQuotedTaken, placeholderStringTaken}
 use Rattle.recognisers.specs.Parens.{inPostgreSql, getOpenParenToken, getCloseParenToken}
 use Rattle.recognisers.specs.Number.{decimalNumber, exponent, scientificNotation, unsigned, getNumberToken}
-use Rattle.recognisers.specs.Placeholder.{keyed, numberFrom, numberOf, indexed, indexedKey, indexedTaken, getIndexedPlaceholderToken, placeholderName, identTaken, getIdentNamedPlaceholderToken, bracedText, bracedTaken, getBracedNamedPlaceholderToken, hasEscape, stringKey, stringNamedTaken, getStringNamedPlaceholderToken, getPlaceholderToken}
+use Rattle.recognisers.specs.Placeholder.{keyed, numberFrom, numberOf, indexed, indexedKey, indexedTaken, getIndexedPlaceholderToken, placeholderName, identTaken, getIdentNamedPlaceholderToken, bracedText, bracedTaken, getBracedNamedPlaceholderToken, hasEscape, stringKey, stringNamedTaken, stringNamedPairs, getStringNamedPlaceholderToken, getPlaceholderToken}
 use Rattle.recognisers.specs.Words.{getWhitespaceToken, isOperator, getOperatorToken, getWordToken, getAnyOtherChar}
 use Rattle.recognisers.proofs.ByteLoops.{count-inside}
 use Rattle.recognisers.proofs.TakenInside.{Inside, cond-inside, or-inside, done-inside, one-inside, spelled-inside, end-of-word-inside}
 use Rattle.recognisers.proofs.CommentLoops.{line-inside, block-inside}
 use Rattle.recognisers.proofs.ClosingQuote.{quoted-inside}
+use Rattle.recognisers.proofs.EscapedQuotes.{few-string, few-named}
 use Rattle.recognisers.proofs.Blanks.{blanks-inside}
 use Rattle.recognisers.proofs.Digits.{digits-inside, unsigned-inside}
 use Rattle.recognisers.proofs.PlaceholderLaws.{name-inside, placeholder-string-inside, braced-inside}
@@ -123,6 +126,7 @@ pub record Sound (s : List ℕ) (p : Piece) : Type 0 where
   pub inside : p .len ≤ length s
   pub alias-inside : p .alias ≤ p .len
   pub key-inside : KeyFits (p .len) (p .key)
+  pub escaped-inside : p .escaped * 2 ≤ p .len
 
 abbrev pub Sized : List ℕ → Recognised → Type 0
 Sized s (Token p) = Sound s p
@@ -133,12 +137,20 @@ alt-sized s (Token p) b h l = h
 alt-sized s Nothing b h l = l
 
 pub token-sized : (s : List ℕ) (kind : TokenKind) (t : Taken) → Least 1 t → taken t ≤ length s → Sized s (tokenOf kind t)
-token-sized s kind (Bytes n) h l = record { some = h; inside = l; alias-inside = le-refl n; key-inside = tt }
+token-sized s kind (Bytes n) h l = record { some = h; inside = l; alias-inside = le-refl n; key-inside = tt; escaped-inside = zero-le }
 token-sized s kind Fails h l = tt
 
 keyed-sized : (s : List ℕ) (key : ℕ → Key) (least : ℕ) (t : Taken) → ((n : ℕ) → least ≤ n → KeyFits n (key n)) → Least 1 t → Least least t → taken t ≤ length s → Sized s (keyed key t)
-keyed-sized s key least (Bytes n) k h m l = record { some = h; inside = l; alias-inside = le-refl n; key-inside = k n m }
+keyed-sized s key least (Bytes n) k h m l = record { some = h; inside = l; alias-inside = le-refl n; key-inside = k n m; escaped-inside = zero-le }
 keyed-sized s key least Fails k h m l = tt
+
+-- the same of a token with escaped quotes, where its value tells how many
+quote-sized : (s : List ℕ) (kind : TokenKind) (key : ℕ → Key) (pairs : List ℕ → ℕ) → ((v : List ℕ) → pairs v * 2 ≤ length v) → (least : ℕ) (t : Taken)
+    → ((n : ℕ) → least ≤ n → KeyFits n (key n)) → Least 1 t → Least least t → taken t ≤ length s → Sized s (quoteToken kind key (λ n. pairs (take n s)) t)
+quote-sized s kind key pairs f least (Bytes n) k h m l =
+    let e = length-take-le n s l in
+    record { some = h; inside = l; alias-inside = le-refl n; key-inside = k n m; escaped-inside = omega (arith, e, f (take n s)) }
+quote-sized s kind key pairs f least Fails k h m l = tt
 
 -- ---- each recogniser
 
@@ -238,9 +250,14 @@ unfolding stringTaken
 string-takes dialect s =
     or-takes 1 s _ _ (quote (byte "`") [] (byte "`") (bytes "`") s) (or-takes 1 s _ _ (in-sql-server dialect s) (quoted-takes s))
 
+pub string-fits : (dialect : Dialect) (s : List ℕ) (t : Taken) (n : ℕ) → t ≡ stringTaken dialect s → t ≡ Bytes n → n ≤ length s
+string-fits dialect s t n e f = rw (← e, f) at (string-takes dialect s .inside)
+
 pub string-sized : (dialect : Dialect) (s : List ℕ) → Sized s (getStringToken dialect s)
 unfolding getStringToken
-string-sized dialect s = takes-sized s K.String (stringTaken dialect s) (string-takes dialect s)
+string-sized dialect s =
+    let h = string-takes dialect s in
+    quote-sized s K.String (λ n. None) stringPairs few-string 0 (stringTaken dialect s) (λ n l. tt) (h .least) (least-any (stringTaken dialect s)) (h .inside)
 
 -- ---- parentheses
 
@@ -352,7 +369,7 @@ pub string-named-sized : (dialect : Dialect) (s : List ℕ) → Sized s (getStri
 unfolding getStringNamedPlaceholderToken stringNamedTaken
 string-named-sized dialect s =
     let h = mark-takes (contains (bytes "@:")) (placeholderStringTaken dialect) (placeholder-string-inside dialect) s in
-    keyed-sized s (stringKey s) 2 (one (contains (bytes "@:")) (placeholderStringTaken dialect) s) (string-key s) (h .least) (one-least 1 (contains (bytes "@:")) (placeholderStringTaken dialect) (placeholder-string-some dialect) s) (h .inside)
+    quote-sized s K.Placeholder (stringKey s) stringNamedPairs few-named 2 (one (contains (bytes "@:")) (placeholderStringTaken dialect) s) (string-key s) (h .least) (one-least 1 (contains (bytes "@:")) (placeholderStringTaken dialect) (placeholder-string-some dialect) s) (h .inside)
 
 module _ (s : List ℕ) (a b c d : Recognised) where
   four-sized : Sized s a → Sized s b → Sized s c → Sized s d → Sized s (alt a (alt b (alt c d)))

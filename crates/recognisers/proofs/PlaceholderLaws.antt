@@ -26,11 +26,10 @@ use Rattle.recognisers.specs.declared.Number.the-variants.{Is, Overflows
 use Rattle.recognisers.specs.declared.TokenKind.the-variants.{Placeholder}
 use Rattle.recognisers.specs.declared.Recognised.the-variants.{Token, Nothing}
 use Rattle.recognisers.specs.Text.{bytes}
-use Rattle.recognisers.specs.Pieces.{piece}
-use Rattle.recognisers.specs.Taking.{taken, more, done, one, typed, spelled, digit1, contains, startsWith}
-use Rattle.recognisers.specs.Inner.Starts.{startsAmong}
+use Rattle.recognisers.specs.Pieces.{piece, quotePiece}
+use Rattle.recognisers.specs.Taking.{taken, more, done, one, typed, spelled, digit1, contains, startsWith, startsAmong}
 use Rattle.recognisers.specs.Strings.{closedBy, inSQLServer, placeholderQuotedTaken, placeholderStringTaken}
-use Rattle.recognisers.specs.Placeholder.{numberFrom, numberOf, indexed, indexedKey, indexedTaken, placeholderName, identTaken, throughBrace, bracedText, bracedTaken, hasEscape, stringKey, stringNamedTaken, getIndexedPlaceholderToken, getIdentNamedPlaceholderToken, getBracedNamedPlaceholderToken, getStringNamedPlaceholderToken}
+use Rattle.recognisers.specs.Placeholder.{numberFrom, numberOf, indexed, indexedKey, indexedTaken, placeholderName, identTaken, throughBrace, bracedText, bracedTaken, hasEscape, stringKey, stringNamedTaken, stringNamedPairs, getIndexedPlaceholderToken, getIdentNamedPlaceholderToken, getBracedNamedPlaceholderToken, getStringNamedPlaceholderToken}
 use Rattle.recognisers.proofs.TakenInside.{Inside, or-inside, done-inside, one-inside, spelled-inside, cond-inside, fits-more}
 use Rattle.recognisers.proofs.Digits.{digits-inside, marked-fits, marked-then, marked-not}
 use Rattle.recognisers.proofs.CommentLoops.{PassedAt, passed-more}
@@ -161,9 +160,10 @@ module _ (s : List ℕ) (t : Taken) where
     braced-nothing f = rw (← e, f)
 
   module _ (dialect : Dialect) (e : t ≡ stringNamedTaken dialect s) where
-    pub string-token : (n : ℕ) (k : Key) → t ≡ Bytes n → k ≡ stringKey s n → Token (piece Placeholder n k) ≡ getStringNamedPlaceholderToken dialect s
+    pub string-token : (n : ℕ) (k : Key) (q : ℕ) → t ≡ Bytes n → k ≡ stringKey s n → q ≡ stringNamedPairs (take n s)
+        → Token (quotePiece Placeholder n k q) ≡ getStringNamedPlaceholderToken dialect s
     unfolding getStringNamedPlaceholderToken
-    string-token n k f g = rw (← e, f, g)
+    string-token n k q f g h = rw (← e, f, g, h)
 
     pub string-nothing : t ≡ Fails → Nothing ≡ getStringNamedPlaceholderToken dialect s
     unfolding getStringNamedPlaceholderToken

@@ -16,6 +16,9 @@ use Rattle.recognisers.specs.declared.Taken.{Taken}
 use Rattle.recognisers.specs.declared.Taken.the-variants.{Bytes, Fails}
 use Rattle.recognisers.specs.Taking.{Taker, more, done, one, spelled, isSpelled, typed}
 
+pub not-fails : {P : Type 0} (n : ℕ) → Fails ≡ Bytes n → P
+not-fails n e = absurd (let z : _≡_ {A = ℕ} 0 1 = cc in let y : ⊥ = omega arith in y)
+
 pub more-zero : (t : Taken) → more 0 t ≡ t
 more-zero (Bytes n) = rw (zero-add n)
 more-zero Fails = refl

@@ -16,8 +16,8 @@ use Rattle.recognisers.specs.declared.Recognised.{Recognised}
 use Rattle.recognisers.specs.declared.Recognised.the-variants.{Token, Nothing}
 use Rattle.recognisers.specs.Text.{byte, bytes}
 use Rattle.recognisers.specs.Taking.{Taker, more, or, done, one, literal, digit1, atLeast, contains, startsWith}
-use Rattle.recognisers.specs.Strings.{placeholderStringTaken}
-use Rattle.recognisers.specs.Pieces.{piece, alt}
+use Rattle.recognisers.specs.Strings.{placeholderStringTaken, placeholderStringPairs}
+use Rattle.recognisers.specs.Pieces.{piece, quoteToken, alt}
 use Rattle.unicode.specs.Classes.{isPlaceholderNameCharacter}
 use Rattle.unicode.specs.Runs.{run}
 
@@ -87,8 +87,13 @@ stringKey s n = cond (hasEscape (getD s (n - 1) 0) (take (n - 3) (drop 2 s))) (E
 unfoldable pub stringNamedTaken : Dialect → Taker
 stringNamedTaken dialect s = one (contains (bytes "@:")) (placeholderStringTaken dialect) s
 
+-- the pairs behind the mark
+unfoldable pub stringNamedPairs : List ℕ → ℕ
+stringNamedPairs value = placeholderStringPairs (drop 1 value)
+
 unfoldable pub getStringNamedPlaceholderToken : Dialect → List ℕ → Recognised
-getStringNamedPlaceholderToken dialect s = keyed (stringKey s) (stringNamedTaken dialect s)
+getStringNamedPlaceholderToken dialect s =
+    quoteToken Placeholder (stringKey s) (λ n. stringNamedPairs (take n s)) (stringNamedTaken dialect s)
 
 -- the order of the alternatives goes by the setting
 unfoldable pub getPlaceholderToken : Bool → Dialect → List ℕ → Recognised

@@ -102,3 +102,8 @@ contains (e ∷ bytes) b = eqb b e || contains bytes b
 unfoldable pub startsWith : ℕ → List ℕ → Bool
 startsWith b [] = false
 startsWith b (c ∷ s) = eqb c b
+
+-- one of the bytes stands at the start
+unfoldable pub startsAmong : List ℕ → List ℕ → Bool
+startsAmong bytes [] = false
+startsAmong bytes (b ∷ s) = contains bytes b

@@ -2,6 +2,7 @@
 // statement from the present token on.
 mod comment;
 mod comparing;
+mod escaped_quotes;
 mod kinds;
 mod numbers;
 mod parens;
@@ -70,12 +71,14 @@ pub enum Key {
     OneIndexed(u64),
 }
 
-// A token at the start of a rest: the alias is the value's first part, and a key's start counts from there.
+// A token at the start of a rest: the alias is the value's first part, and a key's start counts from there. `escaped` is how many
+// quotes of a string are escaped.
 pub struct Piece {
     pub kind: TokenKind,
     pub len: usize,
     pub alias: usize,
     pub key: Key,
+    pub escaped: usize,
 }
 
 // What a recogniser answers: the Rust's `Result<Token>`.

@@ -6,6 +6,7 @@ use crate::Piece;
 use crate::Recognised;
 use crate::Taken;
 use crate::TokenKind;
+use crate::escaped_quotes::string_named_pairs;
 use crate::numbers::marked_digits;
 use crate::scan::at_least;
 use crate::scan::exactly;
@@ -93,6 +94,7 @@ pub fn get_indexed_placeholder_token(rest: &[u8]) -> Recognised
                 len: n,
                 alias: n,
                 key: key,
+                escaped: 0,
             })
         }
         Taken::Fails => Recognised::Nothing,
@@ -138,6 +140,7 @@ pub fn get_ident_named_placeholder_token(rest: &[u8]) -> Recognised
                 len: n,
                 alias: n,
                 key: Key::Named { start: 1, len: len },
+                escaped: 0,
             })
         }
         Taken::Fails => Recognised::Nothing,
@@ -194,6 +197,7 @@ pub fn get_braced_named_placeholder_token(rest: &[u8]) -> Recognised
                 len: n,
                 alias: n,
                 key: Key::Named { start: 1, len: len },
+                escaped: 0,
             })
         }
         Taken::Fails => Recognised::Nothing,
@@ -257,11 +261,13 @@ pub fn get_string_named_placeholder_token(rest: &[u8], dialect: Dialect) -> Reco
     match part {
         Taken::Bytes(n) => {
             let key = string_key(rest, n);
+            let escaped = string_named_pairs(&rest[..n]);
             Recognised::Token(Piece {
                 kind: TokenKind::Placeholder,
                 len: n,
                 alias: n,
                 key: key,
+                escaped: escaped,
             })
         }
         Taken::Fails => Recognised::Nothing,

@@ -9,8 +9,7 @@ ghost use Prim.Native.Nat.{_+_, _^_, _<_};
 ghost use lib.Dec.{eqb};
 ghost use mathlib.Core.Bool.{_&&_};
 ghost use lib.ListN.{length, drop};
-ghost use Rattle.recognisers.specs.Taking.{taken, more, or, done, literal, caseless, typed, capital, isSpelled, endOfWord, isDigit, count, atLeast, contains, startsWith};
-ghost use Rattle.recognisers.specs.Inner.Starts.{startsAmong};
+ghost use Rattle.recognisers.specs.Taking.{taken, more, or, done, literal, caseless, typed, capital, isSpelled, endOfWord, isDigit, count, atLeast, contains, startsWith, startsAmong};
 ghost use Rattle.recognisers.specs.Pieces.{tokenOf, alt};
 
 pub fn is_among(bytes: &[u8], b: u8) -> bool
@@ -197,6 +196,7 @@ pub fn token_of(kind: TokenKind, t: Taken) -> Recognised
             len: n,
             alias: n,
             key: Key::None,
+            escaped: 0,
         }),
         Taken::Fails => Recognised::Nothing,
     }

@@ -1,14 +1,16 @@
 // `take_till_escaping`, `get_string_token` and `get_placeholder_string_token`.
 use crate::Dialect;
+use crate::Key;
+use crate::Piece;
 use crate::Recognised;
 use crate::Taken;
 use crate::TokenKind;
+use crate::escaped_quotes::string_pairs;
 use crate::scan::first_of;
 use crate::scan::is_among;
 use crate::scan::is_spelled;
 use crate::scan::n_more;
 use crate::scan::stands_at;
-use crate::scan::token_of;
 ghost use mathlib.Core.Path.{_≡_};
 ghost use mathlib.Core.Bool.{false, _&&_};
 ghost use Prim.Native.Nat.{_+_, _<_};
@@ -18,7 +20,7 @@ ghost use Rattle.recognisers.specs.Taking.{or, literal, contains, starts
 ghost use Rattle.recognisers.specs.Strings.{takeTillEscaping, closedBy, inSQLServer, hexTaken, quotedTaken, stringTaken, getStringToken, placeholderQuotedTaken, placeholderStringTaken};
 
 // An escape stands at i, and the desired byte behind it.
-fn escaped_at(rest: &[u8], i: usize, desired: u8, escapes: &[u8]) -> bool
+pub fn escaped_at(rest: &[u8], i: usize, desired: u8, escapes: &[u8]) -> bool
     requires { ⌜ i < length (now rest) ⌝ }
     ensures { λ r. ⌜ r ≡ (startsWith desired (drop (i + 1) (now (rest .entry))) && contains (now (escapes .entry)) (getD (now (rest .entry)) i 0)) ⌝ }
 {
@@ -105,7 +107,19 @@ fn string_taken(rest: &[u8], dialect: Dialect) -> Taken
 pub fn get_string_token(rest: &[u8], dialect: Dialect) -> Recognised
     ensures { λ r. ⌜ r ≡ getStringToken dialect (now (rest .entry)) ⌝ }
 {
-    token_of(TokenKind::String, string_taken(rest, dialect))
+    match string_taken(rest, dialect) {
+        Taken::Bytes(n) => {
+            let escaped = string_pairs(&rest[..n]);
+            Recognised::Token(Piece {
+                kind: TokenKind::String,
+                len: n,
+                alias: n,
+                key: Key::None,
+                escaped: escaped,
+            })
+        }
+        Taken::Fails => Recognised::Nothing,
+    }
 }
 
 // Like `quoted_taken`, with other escapes.

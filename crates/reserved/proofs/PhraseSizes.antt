@@ -1,6 +1,6 @@
 -- Every reserved word is at least one byte, lies inside the rest, and has its alias inside it.
 -- Assumes nothing.
-use Prim.Native.Nat.{ℕ, _-_, _≤_}
+use Prim.Native.Nat.{ℕ, _-_, _≤_, zero-le}
 use native.Mathlib.Nat.{le-refl}
 use mathlib.Core.Path.{_≡_, refl}
 use mathlib.Core.List.{List, [], _∷_}
@@ -79,11 +79,11 @@ top-level-sized : (last : TopLevel) (s : List ℕ) (t : Taken) → Takes 1 s t �
 top-level-sized last s (Bytes n) h =
     let a = alias-fits (take n s) in
     let l : length (take n s) ≡ n = length-take-le n s (h .inside) in
-    record { some = h .least; inside = h .inside; alias-inside = rw l at a; key-inside = tt }
+    record { some = h .least; inside = h .inside; alias-inside = rw l at a; key-inside = tt; escaped-inside = zero-le }
 top-level-sized last s Fails h = tt
 
 newline-sized : (between : Bool) (s : List ℕ) (t : Taken) → Takes 1 s t → Sized s (newlineToken between s t)
-newline-sized between s (Bytes n) h = record { some = h .least; inside = h .inside; alias-inside = le-refl n; key-inside = tt }
+newline-sized between s (Bytes n) h = record { some = h .least; inside = h .inside; alias-inside = le-refl n; key-inside = tt; escaped-inside = zero-le }
 newline-sized between s Fails h = tt
 
 -- ---- the six groups

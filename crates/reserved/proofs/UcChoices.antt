@@ -13,10 +13,10 @@ use borrow.Author.Tests.{eqb-true, eq-eqb}
 use Rattle.recognisers.specs.declared.Taken.{Taken}
 use Rattle.recognisers.specs.declared.Taken.the-variants.{Bytes, Fails}
 use Rattle.recognisers.specs.Taking.{Taker, more, or, done, typed, isSpelled, literal}
-use Rattle.recognisers.proofs.Spelling.{more-zero, spelled-is}
+use Rattle.recognisers.proofs.Spelling.{not-fails, more-zero, spelled-is}
 use Rattle.reserved.specs.UcChoices.{Choice, words, both, either, maybe, behind, firstWord, choose}
 use Rattle.reserved.proofs.Behind.{behind-behind, behind-same, literal-behind}
-use Rattle.reserved.proofs.UcFind.{not-fails, left-of}
+use Rattle.reserved.proofs.UcFind.{left-of}
 use Rattle.reserved.proofs.UcWords.{literal-append}
 
 -- ---- taking one after the other

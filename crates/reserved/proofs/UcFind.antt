@@ -18,16 +18,13 @@ use Rattle.unicode.specs.Runs.{run}
 use Rattle.recognisers.specs.declared.Taken.{Taken}
 use Rattle.recognisers.specs.declared.Taken.the-variants.{Bytes, Fails}
 use Rattle.recognisers.specs.Taking.{taken, more, done, typed, isSpelled, capital}
-use Rattle.recognisers.proofs.Spelling.{more-zero, more-more}
+use Rattle.recognisers.proofs.Spelling.{not-fails, more-zero, more-more}
 use Rattle.reserved.specs.Phrases.{walk}
 use Rattle.reserved.specs.UcWords.{trimStart, toAsciiUppercase, find, lastWord, finalize}
 use Rattle.reserved.proofs.UcBytes.{isVisible, white-hidden, continuation-hidden}
 use Rattle.reserved.proofs.UcAhead.{begins, letter-yes, letter-no, letter-end, gap-yes, gap-no}
 
 -- ---- a part that took bytes
-
-pub not-fails : {P : Type 0} (m : ℕ) → Fails ≡ Bytes m → P
-not-fails m e = absurd (let z : _≡_ {A = ℕ} 0 1 = cc in let y : ⊥ = omega arith in y)
 
 pub record Left (n : ℕ) (t : Taken) (m : ℕ) : Type 0 where
   pub left : ℕ

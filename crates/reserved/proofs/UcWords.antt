@@ -15,13 +15,14 @@ use Rattle.recognisers.specs.declared.Taken.{Taken}
 use Rattle.recognisers.specs.declared.Taken.the-variants.{Bytes, Fails}
 use Rattle.recognisers.specs.Text.{bytes}
 use Rattle.recognisers.specs.Taking.{Taker, more, done, one, typed, spelled, literal, endOfWord}
+use Rattle.recognisers.proofs.Spelling.{not-fails}
 use Rattle.reserved.specs.Phrases.{walk, after, optional, phrase, phraseIfExists}
 use Rattle.reserved.specs.UcWords.{trimStart, splitWhitespace, getUcWords, lastWord, finalize, opt, ucPhrase, finalized, phraseByUcWords}
 use Rattle.reserved.specs.UcChoices.{behind}
 use Rattle.reserved.proofs.Behind.{behind-same, literal-behind}
 use Rattle.reserved.proofs.PhraseWalk.{walk-step, walk-and}
 use Rattle.reserved.proofs.UcAhead.{begins, shaped, ahead, ahead-end, stands, done-alike, end-of-word-alike, stands-alike, letter-shape, no-gap}
-use Rattle.reserved.proofs.UcFind.{not-fails, left-of, letter-of, no-letter-at-end, endsItself, finalize-walk}
+use Rattle.reserved.proofs.UcFind.{left-of, letter-of, no-letter-at-end, endsItself, finalize-walk}
 
 -- the words that `get_uc_words` takes, where the text begins with one
 trim-none : (s : List ℕ) → isWhitespace (codePoint s) ≡ false → trimStart s ≡ s

@@ -59,7 +59,7 @@ aliasLength value = cond (isSpelled typed (bytes "CREATE") value || isSpelled ty
 
 abbrev pub topLevelToken : TopLevel → List ℕ → Taken → Recognised
 topLevelToken last s (Bytes n) =
-    Token (record { kind = topLevelKind last (take n s); len = n; alias = aliasLength (take n s); key = None })
+    Token (record { kind = topLevelKind last (take n s); len = n; alias = aliasLength (take n s); key = None; escaped = 0 })
 topLevelToken last s Fails = Nothing
 
 unfoldable pub getTopLevelReservedToken : TopLevel → List ℕ → Recognised

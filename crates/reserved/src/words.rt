@@ -121,6 +121,7 @@ fn top_level_token(rest: &[u8], n: usize, last: TopLevel) -> Recognised
         len: n,
         alias: alias,
         key: Key::None,
+        escaped: 0,
     })
 }
 

@@ -17,6 +17,7 @@ use Rattle.recognisers.specs.declared.Taken.{Taken}
 use Rattle.recognisers.specs.declared.Taken.the-variants.{Bytes, Fails}
 use Rattle.recognisers.specs.Taking.{more, startsWith}
 use Rattle.recognisers.specs.Comment.{tillLineEnding}
+use Rattle.recognisers.proofs.Spelling.{not-fails}
 use Rattle.tight.specs.LoneReturn.{noLoneReturn}
 use Rattle.tight.proofs.Whitespace.{isBlank}
 use Rattle.tight.proofs.Sim.{Sim, nil, keep, same, swap, lose}
@@ -39,9 +40,6 @@ broken-now at-newline = refl
 zero≢suc : {A : Type 0} {n : ℕ} → Bytes 0 ≡ Bytes (suc n) → A
 zero≢suc {n} e = absurd (let z : 0 ≡ suc n = cc in omega arith)
 
-pub fails≢bytes : {A : Type 0} {n : ℕ} → Fails ≡ Bytes n → A
-fails≢bytes {n} e = absurd (let z : _≡_ {A = ℕ} 0 1 = cc in omega arith)
-
 pub bytes-inj : {n m : ℕ} → Bytes n ≡ Bytes m → n ≡ m
 bytes-inj e = cc
 
@@ -49,8 +47,8 @@ bytes-inj e = cc
 inside : {n : ℕ} (t u v : Bool) (o : Taken) → cond t (Bytes 0) (cond u (cond v (Bytes 0) Fails) (more 1 o)) ≡ Bytes (suc n) → (t ≡ false) × (u ≡ false) × (o ≡ Bytes n)
 inside true u v o e = zero≢suc e
 inside false true true o e = zero≢suc e
-inside false true false o e = fails≢bytes e
-inside false false v Fails e = fails≢bytes e
+inside false true false o e = not-fails _ e
+inside false false v Fails e = not-fails _ e
 inside {n} false false v (Bytes m) e = (refl, refl, ap Bytes (let z : 1 + m ≡ suc n = bytes-inj e in omega arith))
 
 pub line-sim : {n : ℕ} {x x′ : List ℕ} → Sim n x x′ → Broken n x′ → tillLineEnding x ≡ Bytes n → tillLineEnding x′ ≡ Bytes n
@@ -82,7 +80,7 @@ line-end (b ∷ x) zero e = go (eqb b 10) (eqb b 13) refl refl
     at c h f = rw f h
 
     more≢ : (o : Taken) → more 1 o ≡ Bytes 0 → ⊥
-    more≢ Fails f = fails≢bytes f
+    more≢ Fails f = not-fails _ f
     more≢ (Bytes m) f = let z : 1 + m ≡ 0 = bytes-inj f in omega arith
 
     go : (t u : Bool) → eqb b 10 ≡ t → eqb b 13 ≡ u → isBlank (b ∷ x) ≡ true
@@ -92,15 +90,15 @@ line-end (b ∷ x) zero e = go (eqb b 10) (eqb b 13) refl refl
 
 pub line-some : (x : List ℕ) → noLoneReturn x ≡ true → tillLineEnding x ≡ Fails → ⊥
 unfolding tillLineEnding noLoneReturn
-line-some [] h e = fails≢bytes (sym e)
+line-some [] h e = not-fails _ (sym e)
 line-some (b ∷ x) h e = go (eqb b 10) (eqb b 13) (startsWith 10 x) (noLoneReturn x) (tillLineEnding x) h e (line-some x)
   where
     go : (t u v w : Bool) (o : Taken) → ((not u || v) && w) ≡ true → cond t (Bytes 0) (cond u (cond v (Bytes 0) Fails) (more 1 o)) ≡ Fails → (w ≡ true → o ≡ Fails → ⊥) → ⊥
-    go true u v w o h e i = fails≢bytes (sym e)
-    go false true true w o h e i = fails≢bytes (sym e)
+    go true u v w o h e i = not-fails _ (sym e)
+    go false true true w o h e i = not-fails _ (sym e)
     go false true false w o h e i = false≢true h
     go false false v w Fails h e i = i h refl
-    go false false v w (Bytes m) h e i = fails≢bytes (sym e)
+    go false false v w (Bytes m) h e i = not-fails _ (sym e)
 
 pub no-lone-drop : (k : ℕ) (x : List ℕ) → noLoneReturn x ≡ true → noLoneReturn (drop k x) ≡ true
 unfolding noLoneReturn

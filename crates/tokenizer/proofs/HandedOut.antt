@@ -68,7 +68,7 @@ pub handed-out : (settings : Settings) (s : List ℕ) → length s ≤ longest �
 handed-out settings s l = each-token settings s Words32 (λ at. Unit {0}) one tt
   where
     one : (memory : Memory) (at : ℕ) (p : Piece) → at < length s → Unit {0} → nextPiece settings memory (drop at s) ≡ R.Token p
-        → Words32 (record { kind = givenOut (settings .joins) (p .kind); start = at; len = p .len; alias = p .alias; key = placed at (p .key) }) × Unit {0}
+        → Words32 (record { kind = givenOut (settings .joins) (p .kind); start = at; len = p .len; alias = p .alias; key = placed at (p .key); escaped = p .escaped }) × Unit {0}
     one memory at p h u e =
         let f : Sized (drop at s) (R.Token p) = rw e at (piece-sized settings memory (drop at s)) in
         let i = f .inside in

@@ -6,7 +6,7 @@ use mir.Syntax.{w64}
 use mir.Val.{Fits}
 use Rattle.recognisers.specs.declared.Key.{Key}
 use Rattle.recognisers.specs.declared.Key.the-variants.{None, Named, Escaped, ZeroIndexed, OneIndexed}
-use Rattle.recognisers.specs.Inner.Starts.{keyStart}
+use Rattle.recognisers.specs.Inner.KeyStart.{keyStart}
 use Rattle.tokenizer.specs.Tokens.{placed}
 
 module _ (at : ℕ) (key : Key) where

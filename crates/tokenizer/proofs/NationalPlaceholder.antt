@@ -20,7 +20,7 @@ use Rattle.recognisers.specs.Same.{same}
 use Rattle.recognisers.specs.Taking.{one, spelled, typed, capital, count, digit1, contains, startsWith}
 use Rattle.recognisers.specs.TypeSpecifier.{getTypeSpecifierToken}
 use Rattle.recognisers.specs.Comment.{getCommentToken}
-use Rattle.recognisers.specs.Strings.{takeTillEscaping, closedBy, hexTaken, quotedTaken, stringTaken, getStringToken}
+use Rattle.recognisers.specs.Strings.{takeTillEscaping, closedBy, hexTaken, quotedTaken, stringTaken, pairsPassed, pairsIn, stringPairs, getStringToken}
 use Rattle.recognisers.specs.Parens.{getOpenParenToken, getCloseParenToken}
 use Rattle.recognisers.specs.Number.{decimalNumber, scientificNotation, unsigned, getNumberToken}
 use Rattle.recognisers.specs.Words.{getWhitespaceToken, isOperator, getOperatorToken}
@@ -32,13 +32,13 @@ use Rattle.tokenizer.specs.NextToken.{fromPlaceholder, fromOperator, fro
 use Rattle.tokenizer.specs.Tokens.{givenOut, tokensFrom, tokens}
 
 abbrev placeholder : Token
-placeholder = record { kind = K.Placeholder; start = 0; len = 2; alias = 2; key = Named 1 1 }
+placeholder = record { kind = K.Placeholder; start = 0; len = 2; alias = 2; key = Named 1 1; escaped = 0 }
 
 abbrev string : Token
-string = record { kind = K.String; start = 2; len = 4; alias = 4; key = None }
+string = record { kind = K.String; start = 2; len = 4; alias = 4; key = None; escaped = 0 }
 
 pub national-placeholder : (dialect : Dialect) (joins named : Bool) → tokens (record { dialect = dialect; joins = joins; named = named }) (bytes "@N'ab'") ≡ placeholder ∷ string ∷ []
-unfolding within inRanges whiteSpace alphabetic numeric continuations continued firstBits withBits codePoint isWhitespace isAlphabetic isNumeric isAlphanumeric isPlaceholderNameCharacter run same one spelled typed capital count digit1 contains startsWith getTypeSpecifierToken getCommentToken takeTillEscaping closedBy hexTaken quotedTaken stringTaken getStringToken getOpenParenToken getCloseParenToken decimalNumber scientificNotation unsigned getNumberToken getWhitespaceToken isOperator getOperatorToken indexedTaken getIndexedPlaceholderToken placeholderName identTaken getIdentNamedPlaceholderToken getPlaceholderToken mayBeReserved getReservedWordToken takesTypeSpecifier afterBetween lastTopLevel remember remembered fromPlaceholder fromOperator fromReserved fromNumber fromCloseParen fromOpenParen fromString fromTypeSpecifier getNextToken nextPiece givenOut tokensFrom tokens
+unfolding within inRanges whiteSpace alphabetic numeric continuations continued firstBits withBits codePoint isWhitespace isAlphabetic isNumeric isAlphanumeric isPlaceholderNameCharacter run same one spelled typed capital count digit1 contains startsWith getTypeSpecifierToken getCommentToken takeTillEscaping closedBy hexTaken quotedTaken stringTaken pairsPassed pairsIn stringPairs getStringToken getOpenParenToken getCloseParenToken decimalNumber scientificNotation unsigned getNumberToken getWhitespaceToken isOperator getOperatorToken indexedTaken getIndexedPlaceholderToken placeholderName identTaken getIdentNamedPlaceholderToken getPlaceholderToken mayBeReserved getReservedWordToken takesTypeSpecifier afterBetween lastTopLevel remember remembered fromPlaceholder fromOperator fromReserved fromNumber fromCloseParen fromOpenParen fromString fromTypeSpecifier getNextToken nextPiece givenOut tokensFrom tokens
 national-placeholder Generic joins true = refl
 national-placeholder Generic joins false = refl
 national-placeholder PostgreSql joins true = refl

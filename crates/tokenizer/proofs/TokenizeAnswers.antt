@@ -13,8 +13,10 @@ use Rattle.calls.specs.declared.Refusal.the-variants.{TableFull}
 use Rattle.calls.specs.declared.Settings.{Settings}
 use Rattle.calls.specs.Checks.{checked}
 use Rattle.tokenizer.specs.declared.TableAnswer.{TableAnswer}
-use Rattle.tokenizer.specs.declared.TableAnswer.the-variants.{Written, Refused}
-use Rattle.tokenizer.specs.Answers.{tableAnswer, tableAfter, tokenizeAnswer, tokenizeRecords}
+use Rattle.tokenizer.specs.declared.TableAnswer.the-variants.{Refused}
+use Rattle.tokenizer.specs.declared.Totals.{Totals}
+use Rattle.tokenizer.specs.Answers.{allWritten, tableAnswer, tableAfter, tokenizeAnswer, tokenizeRecords}
+use Rattle.tokenizer.specs.EscapedQuotes.{totals}
 use Rattle.tokenizer.specs.Records.{written}
 use Rattle.tokenizer.specs.Tokens.{tokens}
 use Rattle.tokenizer.proofs.EndToEnd.{tokens-short}
@@ -33,9 +35,9 @@ module _ (settings : Settings) (s table : List ℕ) (n : ℕ) (c : n ≡ length 
   pub written-room : n ≤ length table / 28 → length (tokens settings s) * 28 ≤ length table
   written-room f = rw (← c) (omega arith)
 
-  pub written-answer : (m : ℕ) → n ≤ length table / 28 → m ≡ length (tokens settings s) → Written m ≡ tableAnswer settings s (length table)
+  pub written-answer : (answer : TableAnswer) (t : Totals) → n ≤ length table / 28 → t ≡ totals (tokens settings s) → answer ≡ allWritten t → answer ≡ tableAnswer settings s (length table)
   unfolding tableAnswer
-  written-answer m f e = rw (e, ← c, le-ltb _ _ f)
+  written-answer answer t f e g = g ∙ rw (e, ← c, le-ltb _ _ f)
 
   pub written-table : (after : List ℕ) → n ≤ length table / 28 → after ≡ written (tokens settings s) table → after ≡ tableAfter settings s table
   unfolding tableAfter
@@ -46,8 +48,9 @@ module _ (settings : Settings) (s table : List ℕ) (f : length s ≤ length tab
   pub byte-room : length (tokens settings s) * 28 ≤ length table
   byte-room = let k = tokens-short settings s in omega arith
 
-  pub byte-answer : (n : ℕ) → n ≡ length (tokens settings s) → Written n ≡ tableAnswer settings s (length table)
-  byte-answer n c = let k = tokens-short settings s in written-answer settings s table n c n (omega arith) c
+  pub byte-answer : (answer : TableAnswer) (t : Totals) → t ≡ totals (tokens settings s) → answer ≡ allWritten t → answer ≡ tableAnswer settings s (length table)
+  byte-answer answer t e g =
+      let k = tokens-short settings s in written-answer settings s table (length (tokens settings s)) refl answer t (omega arith) e g
 
   pub byte-table : (after : List ℕ) → after ≡ written (tokens settings s) table → after ≡ tableAfter settings s table
   byte-table after e = let k = tokens-short settings s in written-table settings s table (length (tokens settings s)) refl after (omega arith) e

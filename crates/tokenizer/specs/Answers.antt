@@ -11,14 +11,19 @@ use Rattle.calls.specs.Checks.{checked, acceptedOr}
 use Rattle.calls.specs.Refusals.{refusalNumber, refusalDetail}
 use Rattle.tokenizer.specs.declared.TableAnswer.{TableAnswer}
 use Rattle.tokenizer.specs.declared.TableAnswer.the-variants.{Written, Refused}
+use Rattle.tokenizer.specs.declared.Totals.{Totals}
 use Rattle.tokenizer.specs.Tokens.{tokens}
 use Rattle.tokenizer.specs.Records.{written}
+use Rattle.tokenizer.specs.EscapedQuotes.{totals}
+
+abbrev pub allWritten : Totals → TableAnswer
+allWritten t = Written (t .tokens) (t .escaped)
 
 -- whole records of 28 bytes in a table of so many bytes
 unfoldable pub tableAnswer : Settings → List ℕ → ℕ → TableAnswer
 tableAnswer settings s room =
     cond (ltb (room / 28) (length (tokens settings s))) (Refused (TableFull (length (tokens settings s))))
-    (Written (length (tokens settings s)))
+    (allWritten (totals (tokens settings s)))
 
 unfoldable pub tableAfter : Settings → List ℕ → List ℕ → List ℕ
 tableAfter settings s table = cond (ltb (length table / 28) (length (tokens settings s))) table (written (tokens settings s) table)
@@ -31,11 +36,15 @@ tokenizeAnswer s dialect joins named room = acceptedOr (λ settings. tableAnswer
 unfoldable pub tokenizeRecords : List ℕ → ℕ → ℕ → ℕ → List ℕ → List ℕ
 tokenizeRecords s dialect joins named table = acceptedOr (λ settings. tableAfter settings s table) (λ refusal. table) (checked dialect joins named s)
 
--- the number, and the detail beside it
+-- the number, the detail beside it, and how many quotes are escaped
 abbrev pub tableNumber : TableAnswer → ℕ
-tableNumber (Written n) = 0
+tableNumber (Written n escaped) = 0
 tableNumber (Refused refusal) = refusalNumber refusal
 
 abbrev pub tableDetail : TableAnswer → ℕ
-tableDetail (Written n) = n
+tableDetail (Written n escaped) = n
 tableDetail (Refused refusal) = refusalDetail refusal
+
+abbrev pub tableEscaped : TableAnswer → ℕ
+tableEscaped (Written n escaped) = escaped
+tableEscaped (Refused refusal) = 0

@@ -2,6 +2,7 @@
 pub mod Memory
 pub mod NextToken
 pub mod Tokens
+pub mod EscapedQuotes
 pub mod Records
 pub mod Answers
 pub mod Values

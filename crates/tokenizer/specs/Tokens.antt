@@ -41,6 +41,7 @@ tokenAt settings at piece =
       len = piece .len;
       alias = piece .alias;
       key = placed at (piece .key);
+      escaped = piece .escaped;
     }
 
 -- the token at the cursor, and the cursor past it

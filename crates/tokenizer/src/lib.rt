@@ -4,7 +4,6 @@ use recognisers::Key;
 use recognisers::TokenKind;
 use reserved::TopLevel;
 
-mod answers;
 mod choice;
 mod records;
 mod remembering;
@@ -12,8 +11,6 @@ mod stepping;
 mod table;
 mod tokenizing;
 
-pub use answers::table_detail;
-pub use answers::table_number;
 pub use records::key_words;
 pub use stepping::at_start;
 pub use stepping::next_step;
@@ -29,13 +26,15 @@ pub struct Memory {
     pub top_level: TopLevel,
 }
 
-// A token of a statement: start, length and alias length in bytes, and a key whose places count from the statement's start.
+// A token of a statement: start, length and alias length in bytes, a key whose places count from the statement's start, and how many
+// of its quotes are escaped.
 pub struct Token {
     pub kind: TokenKind,
     pub start: usize,
     pub len: usize,
     pub alias: usize,
     pub key: Key,
+    pub escaped: usize,
 }
 
 // Where reading stands, and what it remembers.
@@ -49,10 +48,16 @@ pub enum Step {
     Done,
 }
 
-// What `tokenize` answers: how many records it wrote.
+// What `tokenize` answers: how many records it wrote, and how many quotes are escaped in the tokens.
 pub enum TableAnswer {
-    Written(u64),
+    Written { tokens: u64, escaped: u64 },
     Refused(Refusal),
+}
+
+// How many tokens were written, and how many quotes are escaped in them.
+pub struct Totals {
+    pub tokens: usize,
+    pub escaped: usize,
 }
 
 // The last three words of a record.

@@ -13,7 +13,7 @@ use recognisers::is_kind;
 use reserved::TopLevel;
 ghost use mathlib.Core.Path.{_≡_};
 ghost use Prim.Native.Nat.{_+_, _^_, _<_};
-ghost use Rattle.recognisers.specs.Inner.Starts.{keyStart};
+ghost use Rattle.recognisers.specs.Inner.KeyStart.{keyStart};
 ghost use Rattle.tokenizer.specs.Memory.{start};
 ghost use Rattle.tokenizer.specs.Tokens.{givenOut, placed, stepAt};
 
@@ -87,6 +87,7 @@ pub fn next_step(statement: &[u8], settings: Settings, cursor: Cursor) -> Step
         len: len,
         alias: alias,
         key: place_key(at, key),
+        escaped: piece.escaped,
     };
     let next = remember_piece(memory, kind, &rest[..len], alias);
     Step::Token(

@@ -1,6 +1,7 @@
 // The table that a statement's tokens are written to.
 use crate::Step;
 use crate::TableAnswer;
+use crate::Totals;
 use crate::records::put_record;
 use crate::stepping::at_start;
 use crate::stepping::next_step;
@@ -11,7 +12,8 @@ ghost use Prim.Native.Nat.{_*_, _≤_};
 ghost use lib.ListN.{length};
 ghost use Rattle.tokenizer.specs.Tokens.{tokens};
 ghost use Rattle.tokenizer.specs.Records.{written};
-ghost use Rattle.tokenizer.specs.Answers.{tableAnswer, tableAfter};
+ghost use Rattle.tokenizer.specs.EscapedQuotes.{totals};
+ghost use Rattle.tokenizer.specs.Answers.{allWritten, tableAnswer, tableAfter};
 
 pub fn count_tokens(statement: &[u8], settings: Settings) -> usize
     ensures { λ r. ⌜ r ≡ length (tokens settings (now (statement .entry))) ⌝ }
@@ -31,25 +33,38 @@ pub fn count_tokens(statement: &[u8], settings: Settings) -> usize
     }
 }
 
-// How many records were written.
-fn write_tokens(statement: &[u8], settings: Settings, table: &mut [u8]) -> usize
+fn write_tokens(statement: &[u8], settings: Settings, table: &mut [u8]) -> Totals
     requires { ⌜ length (tokens settings (now statement)) * 28 ≤ length (now table) ⌝ }
-    ensures { λ r. ⌜ r ≡ length (tokens settings (now (statement .entry))) ⌝ }
+    ensures { λ r. ⌜ r ≡ totals (tokens settings (now (statement .entry))) ⌝ }
     ensures { λ _. ⌜ now (table .exit) ≡ written (tokens settings (now (statement .entry))) (now (table .entry)) ⌝ }
 {
     let mut at = 0;
+    let mut escaped = 0;
     let mut cursor = at_start();
     loop {
         match next_step(statement, settings, cursor) {
             Step::Token(token, next) => {
                 put_record(table, at, token);
                 at += 28;
+                escaped += token.escaped;
                 cursor = next;
             }
             Step::Done => {
-                return at / 28;
+                return Totals {
+                    tokens: at / 28,
+                    escaped: escaped,
+                };
             }
         }
+    }
+}
+
+fn all_written(totals: Totals) -> TableAnswer
+    ensures { λ r. ⌜ r ≡ allWritten totals ⌝ }
+{
+    TableAnswer::Written {
+        tokens: totals.tokens as u64,
+        escaped: totals.escaped as u64,
     }
 }
 
@@ -62,7 +77,7 @@ fn write_counted(statement: &[u8], settings: Settings, table: &mut [u8]) -> Tabl
     if table.len() / 28 < count {
         return TableAnswer::Refused(Refusal::TableFull(count as u64));
     }
-    TableAnswer::Written(write_tokens(statement, settings, table) as u64)
+    all_written(write_tokens(statement, settings, table))
 }
 
 // With a record for each byte of the statement no table is full, since every token has a byte: one pass is enough.
@@ -73,5 +88,5 @@ pub fn write_table(statement: &[u8], settings: Settings, table: &mut [u8]) -> Ta
     if table.len() / 28 < statement.len() {
         return write_counted(statement, settings, table);
     }
-    TableAnswer::Written(write_tokens(statement, settings, table) as u64)
+    all_written(write_tokens(statement, settings, table))
 }

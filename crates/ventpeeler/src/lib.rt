@@ -1,16 +1,18 @@
 // The boundary for C.
+use calls::Refusal;
 use calls::TextAnswer;
+use calls::refusal_detail;
+use calls::refusal_number;
 use calls::text_detail;
 use calls::text_number;
 use params::fill;
 use tight::tighten;
 use tokenizer::TableAnswer;
-use tokenizer::table_detail;
-use tokenizer::table_number;
 use tokenizer::tokenize;
 ghost use mathlib.Core.Path.{_≡_};
-ghost use Prim.Native.Nat.{min, _<_};
+ghost use Prim.Native.Nat.{min, _+_, _*_, _^_, _<_};
 ghost use lib.ListN.{length};
+ghost use Rattle.tokenizer.specs.declared.TableAnswer.the-variants.{Written, Refused};
 ghost use Rattle.tokenizer.specs.Answers.{tokenizeAnswer, tokenizeRecords};
 ghost use Rattle.tight.specs.Answers.{tightenAnswer, tightenOutput};
 ghost use Rattle.params.specs.Answers.{fillAnswer, fillOutput};
@@ -33,10 +35,17 @@ fn pack(number: u64, detail: u64) -> u64
     number * 72057594037927936 + told
 }
 
-fn pack_table(answer: TableAnswer) -> u64
-    ensures { λ r. ⌜ r ≡ packedTable answer ⌝ }
+fn pack_written(tokens: u64, escaped: u64) -> u64
+    requires { ⌜ escaped * 4294967296 + tokens < 2 ^ 64 ⌝ }
+    ensures { λ r. ⌜ r ≡ packedTable (Written tokens escaped) ⌝ }
 {
-    pack(table_number(answer), table_detail(answer))
+    pack(0, escaped * 4294967296 + tokens)
+}
+
+fn pack_refusal(refusal: Refusal) -> u64
+    ensures { λ r. ⌜ r ≡ packedTable (Refused refusal) ⌝ }
+{
+    pack(refusal_number(refusal), refusal_detail(refusal))
 }
 
 fn pack_text(answer: TextAnswer) -> u64
@@ -57,7 +66,10 @@ pub extern "C" fn ventpeeler_tokenize(
     ensures { λ _. ⌜ now (records .exit) ≡ tokenizeRecords (now (statement .entry)) dialect joins named (now (records .entry)) ⌝ }
 {
     let answer = tokenize(statement, dialect, joins, named, records);
-    pack_table(answer)
+    match answer {
+        TableAnswer::Written { tokens, escaped } => pack_written(tokens, escaped),
+        TableAnswer::Refused(refusal) => pack_refusal(refusal),
+    }
 }
 
 #[no_mangle]

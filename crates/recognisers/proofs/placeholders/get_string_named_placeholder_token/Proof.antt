@@ -1,3 +1,5 @@
+use mathlib.Core.Path.{sym}
+use lib.Seq.{length-take-le}
 use borrow.Author.Needs.{needs}
 use Rattle.recognisers.proofs.PlaceholderLaws.{string-named-fits, string-token, string-nothing}
 use Rattle.recognisers.proofs.placeholders.get_string_named_placeholder_token.Statement.{statement}
@@ -11,6 +13,12 @@ enum-known-part c = search needs
 
 string-key-requires : tie.Need-string-key-requires
 string-key-requires c κs = search string-named-fits
+
+slice-aggregate-string-named-pairs : tie.Need-slice-aggregate-string-named-pairs
+slice-aggregate-string-named-pairs c = sym (length-take-le _ _ (search string-named-fits))
+
+string-named-pairs-requires : tie.Need-string-named-pairs-requires
+string-named-pairs-requires c κs = search needs
 
 enum-told : tie.Need-enum-told
 enum-told c = search needs
@@ -28,6 +36,8 @@ get-string-named-placeholder-token-spec =
     string-named-taken-requires
     enum-known-part
     string-key-requires
+    slice-aggregate-string-named-pairs
+    string-named-pairs-requires
     enum-told
     returns
     returns-2)

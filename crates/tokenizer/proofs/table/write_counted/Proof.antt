@@ -12,6 +12,9 @@ returns c = search (full-answer, full-table)
 write-tokens-requires : tie.Need-write-tokens-requires
 write-tokens-requires c κs = search written-room
 
+all-written-requires : tie.Need-all-written-requires
+all-written-requires c κs = search needs
+
 same-length : tie.Need-same-length
 same-length c = search needs
 
@@ -20,4 +23,11 @@ returns-2 c = search (written-answer, written-table)
 
 pub write-counted-spec : {M : Type 1} → statement M
 write-counted-spec =
-    tie.close (tie.spec count-tokens-requires returns write-tokens-requires same-length returns-2)
+    tie.close
+    (tie.spec
+    count-tokens-requires
+    returns
+    write-tokens-requires
+    all-written-requires
+    same-length
+    returns-2)

@@ -15,6 +15,9 @@ returns c = search needs
 write-tokens-requires : tie.Need-write-tokens-requires
 write-tokens-requires c κs = search byte-room
 
+all-written-requires : tie.Need-all-written-requires
+all-written-requires c κs = search needs
+
 same-length-2 : tie.Need-same-length-2
 same-length-2 c = search needs
 
@@ -23,4 +26,12 @@ returns-2 c = search (byte-answer, byte-table)
 
 pub write-table-spec : {M : Type 1} → statement M
 write-table-spec =
-    tie.close (tie.spec write-counted-requires same-length returns write-tokens-requires same-length-2 returns-2)
+    tie.close
+    (tie.spec
+    write-counted-requires
+    same-length
+    returns
+    write-tokens-requires
+    all-written-requires
+    same-length-2
+    returns-2)
