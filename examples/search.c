@@ -99,8 +99,8 @@ static struct text key_of(struct text search, struct settings settings) {
     return key;
 }
 
-/* Asks for the number of tokens first, then lends a table for exactly these. */
-static uint8_t *records_of(struct text search, struct settings settings, size_t *count) {
+/* Asks for the number of tokens first, then lends a table for exactly these; the last answer tells the escaped quotes. */
+static uint8_t *records_of(struct text search, struct settings settings, size_t *count, size_t *escaped) {
     uint64_t answer =
         ventpeeler_tokenize(search.bytes, search.length, settings.dialect, settings.joins, settings.named, NULL, 0);
     if (ventpeeler_number(answer) != VENTPEELER_TABLE_FULL && ventpeeler_number(answer) != VENTPEELER_DONE) {
@@ -114,6 +114,7 @@ static uint8_t *records_of(struct text search, struct settings settings, size_t 
     if (ventpeeler_number(answer) != VENTPEELER_DONE) {
         refused("tokenize", answer);
     }
+    *escaped = (size_t)ventpeeler_escaped(answer);
     return records;
 }
 
@@ -221,10 +222,13 @@ int main(int argc, char **argv) {
     printf("key\n");
     print_bytes(key.bytes, key.length);
 
-    size_t count;
-    uint8_t *records = records_of(search, settings, &count);
+    size_t count, escaped;
+    uint8_t *records = records_of(search, settings, &count, &escaped);
     printf("\n\n%lu tokens; placeholders\n", (unsigned long)count);
     struct asked asked = print_placeholders(search, records, count);
+    if (escaped > 0) {
+        printf("\n%lu escaped quotes\n", (unsigned long)escaped);
+    }
     if (!settings.named) {
         compare_values(asked, argc - at);
     }

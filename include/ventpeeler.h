@@ -9,7 +9,7 @@
  * EVERY CALL
  *
  * Every call ends, whatever the bytes and numbers given, and gives one answer: a number and a detail
- * (ventpeeler_number, ventpeeler_detail).
+ * (ventpeeler_number, ventpeeler_detail). tokenize's tells the escaped quotes too (ventpeeler_escaped).
  *
  *     No.                         Condition                                      Detail
  *     0 VENTPEELER_DONE           accepted                                       tokens, or bytes of text, written
@@ -50,6 +50,14 @@
  *               named values and 0 with others
  *
  * The default call is 0, 0, 0. All calls for one search are to be made with the same settings.
+ *
+ * VERSIONS
+ *
+ * VENTPEELER_VERSION grows with every change that a caller must know of.
+ *
+ *     1   had no VENTPEELER_VERSION
+ *     2   tokenize's answer under 0 holds the escaped quotes above the detail. Whoever took answer & (2^56 - 1) for the count
+ *         of tokens must take ventpeeler_detail(answer), which are the low 32 bits then. All else is as it was
  */
 #ifndef VENTPEELER_H
 #define VENTPEELER_H
@@ -60,6 +68,8 @@
 #ifdef __cplusplus
 extern "C" {
 #endif
+
+#define VENTPEELER_VERSION 2
 
 #define VENTPEELER_STATEMENT_MOST 65536 /* bytes of a statement */
 #define VENTPEELER_SHEET_LEAST 3        /* bytes of a sheet */
@@ -135,7 +145,12 @@ struct ventpeeler_token {
     uint32_t b;
 };
 
-/* Writes a record for each token. A table holds records_len / 28 records. */
+/*
+ * Writes a record for each token. A table holds records_len / 28 records. The answer tells besides how many quotes are escaped in
+ * the tokens written, at most 32,768 (ventpeeler_escaped): in Strings a doubled quote, as 'a''b' and [a]]b], and in single and
+ * double quotes also one behind a backslash, as 'a\'b'; in placeholders of the form @'a' one behind a backslash, and in backticks
+ * and brackets a doubled one. x'' and X'' know no escapes. What became no token counts nothing.
+ */
 uint64_t ventpeeler_tokenize(const uint8_t *statement, size_t statement_len, uint64_t dialect, uint64_t joins, uint64_t named,
                              uint8_t *records, size_t records_len);
 
@@ -188,13 +203,19 @@ enum ventpeeler_values { VENTPEELER_VALUES_NONE = 0, VENTPEELER_VALUES_NAMED = 1
 uint64_t ventpeeler_fill(const uint8_t *statement, size_t statement_len, uint64_t dialect, uint64_t joins, uint64_t named,
                          const uint8_t *sheet, size_t sheet_len, uint8_t *output, size_t output_len);
 
-/* The answer is the number times 2^56 plus the detail. */
+/* The answer is the number times 2^56, plus the escaped quotes times 2^32 where tokenize has written tokens, plus the detail. */
 static inline unsigned ventpeeler_number(uint64_t answer) {
     return (unsigned)(answer >> 56);
 }
 
+/* Under 0 it has 32 bits; under a refusal 56, which an overlong statement's length may need. */
 static inline uint64_t ventpeeler_detail(uint64_t answer) {
-    return answer & (((uint64_t)1 << 56) - 1);
+    return answer & (((uint64_t)1 << (ventpeeler_number(answer) == VENTPEELER_DONE ? 32 : 56)) - 1);
+}
+
+/* Of an answer of tokenize: how many quotes are escaped in the tokens written; 0 under a refusal. */
+static inline uint64_t ventpeeler_escaped(uint64_t answer) {
+    return ventpeeler_number(answer) == VENTPEELER_DONE ? answer >> 32 : 0;
 }
 
 static inline uint32_t ventpeeler_word(const uint8_t *bytes) {

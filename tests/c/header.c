@@ -1,4 +1,4 @@
-/* The header's own functions, in C99 and in C++. Expected values are worked out by hand from document 01. */
+/* The header's own functions, in C99 and in C++. Expected values are worked out by hand from documents 01 and 02. */
 #include "checks.h"
 
 static void take_answers_apart(void) {
@@ -11,6 +11,24 @@ static void take_answers_apart(void) {
     answer = (uint64_t)3 << 56;
     check(ventpeeler_number(answer) == VENTPEELER_SETTING && ventpeeler_detail(answer) == 0, "no detail",
           "taken apart wrongly");
+}
+
+/* Escaped quotes stand above the detail under 0, and nowhere else. */
+static void take_escaped_quotes_apart(void) {
+    const uint64_t half = (uint64_t)1 << 32;
+    check(ventpeeler_escaped(7) == 0, "no escaped quotes", "taken apart wrongly");
+    uint64_t answer = 5 * half + 7;
+    check(ventpeeler_number(answer) == VENTPEELER_DONE && ventpeeler_detail(answer) == 7 && ventpeeler_escaped(answer) == 5,
+          "five escaped quotes", "taken apart wrongly");
+    answer = 32768 * half + 65536;
+    check(ventpeeler_number(answer) == VENTPEELER_DONE && ventpeeler_detail(answer) == 65536 &&
+              ventpeeler_escaped(answer) == 32768,
+          "the most escaped quotes", "taken apart wrongly");
+    answer = ((uint64_t)1 << 56) + 5 * half + 7;
+    check(ventpeeler_number(answer) == VENTPEELER_OVERLONG && ventpeeler_detail(answer) == 5 * half + 7 &&
+              ventpeeler_escaped(answer) == 0,
+          "a long length", "taken apart wrongly");
+    check(VENTPEELER_VERSION == 2, "the version", "is another");
 }
 
 /* Words of a record at an odd address, with every byte of a word set. */
@@ -64,6 +82,7 @@ static void read_keys(void) {
 
 int main(void) {
     take_answers_apart();
+    take_escaped_quotes_apart();
     read_records();
     read_keys();
     return tell();

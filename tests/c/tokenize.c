@@ -1,4 +1,4 @@
-/* ventpeeler_tokenize through the header. All expected values are worked out by hand from document 01. */
+/* ventpeeler_tokenize through the header. All expected values are worked out by hand from documents 01 and 02. */
 #include "lent.h"
 
 #define RECORD VENTPEELER_RECORD_BYTES
@@ -138,6 +138,58 @@ static void read_search(const struct search *search) {
     }
 }
 
+/* A search, its dialect, its tokens, and how many quotes are escaped in them. */
+static const struct {
+    const char *text;
+    uint64_t dialect, tokens, escaped;
+} escaped_quotes[] = {
+    {"'a'", 0, 1, 0},
+    {"'a''b'", 0, 1, 1},
+    {"'a\\'b'", 0, 1, 1},
+    {"''''", 0, 1, 1},
+    {"\"\\\"\"", 0, 1, 1},
+    {"x'\\'", 0, 1, 0},
+    {"`a``b`", 0, 1, 1},
+    {"[a]]b]", 2, 1, 1},
+    {"[a]]b]", 0, 6, 0},
+    {"@'a\\'b'", 0, 1, 1},
+    {"@'a''", 0, 2, 0}, /* the placeholder @'a' and a quote */
+    {"@`a``b`", 0, 1, 1},
+    {"@[a]]b]", 2, 1, 1},
+    {"@N'a'", 0, 2, 0},
+    {"'a''b", 0, 4, 0}, /* the first quote closes nothing: ' a '' b */
+    {"'a''b' \"c\\\"\" @'\\'' :'d\\'", 0, 11, 3}, /* the last five are no string */
+};
+
+/* The whole answer, with a table that has room and with none. */
+static void count_escaped(void) {
+    for (size_t i = 0; i < sizeof escaped_quotes / sizeof escaped_quotes[0]; i++) {
+        const char *text = escaped_quotes[i].text;
+        uint8_t records[16 * RECORD];
+        uint64_t escaped = escaped_quotes[i].escaped, tokens = escaped_quotes[i].tokens;
+        uint64_t answer = ventpeeler_tokenize((const uint8_t *)text, strlen(text), escaped_quotes[i].dialect, 0, 0, records,
+                                              sizeof records);
+        check(answer == (escaped << 32) + tokens, text, "has another answer, or other escaped quotes");
+        check(ventpeeler_escaped(answer) == escaped, text, "tells other escaped quotes");
+        answer = ventpeeler_tokenize((const uint8_t *)text, strlen(text), escaped_quotes[i].dialect, 0, 0, records, 0);
+        check(answer == ((uint64_t)VENTPEELER_TABLE_FULL << 56) + tokens, text, "is refused with another answer");
+        check(ventpeeler_escaped(answer) == 0, text, "tells escaped quotes under a refusal");
+    }
+}
+
+/* 65,536 quotes are one string; with a gap after each four, 13,107 strings of one escaped quote each, and a quote. */
+static void count_most_escaped(void) {
+    static uint8_t text[VENTPEELER_STATEMENT_MOST], records[26215 * RECORD];
+    memset(text, '\'', sizeof text);
+    uint64_t answer = ventpeeler_tokenize(text, sizeof text, 0, 0, 0, records, sizeof records);
+    check(answer == ((uint64_t)32767 << 32) + 1, "65,536 quotes", "have another answer");
+    for (size_t i = 4; i < sizeof text; i += 5) {
+        text[i] = ' ';
+    }
+    answer = ventpeeler_tokenize(text, sizeof text, 0, 0, 0, records, sizeof records);
+    check(answer == ((uint64_t)13107 << 32) + 26215, "quotes in fours", "have another answer");
+}
+
 static void read_null(void) {
     uint8_t byte = GUARD;
     check_answer(ventpeeler_tokenize(NULL, 0, 0, 0, 0, NULL, 0), VENTPEELER_DONE, 0, "nothing at all");
@@ -236,6 +288,8 @@ int main(void) {
     for (size_t i = 0; i < sizeof searches / sizeof searches[0]; i++) {
         read_search(&searches[i]);
     }
+    count_escaped();
+    count_most_escaped();
     read_null();
     accept_settings();
     refuse_settings("a b", 3, 3 * RECORD);
