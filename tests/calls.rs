@@ -45,6 +45,7 @@ pub const SHEET: u64 = 5;
 pub const OUTPUT_FULL: u64 = 6;
 
 pub const WHITESPACE: u32 = 1;
+pub const STRING: u32 = 2;
 pub const TOP_LEVEL: u32 = 4;
 pub const NEWLINE: u32 = 6;
 pub const LINE_COMMENT: u32 = 11;
@@ -60,10 +61,16 @@ fn unpacked(answer: u64) -> Answer {
     (answer >> 56, answer & ((1 << 56) - 1))
 }
 
-pub fn tokenize(text: &[u8], [dialect, joins, named]: Settings, records: &mut [u8]) -> Answer {
-    unpacked(unsafe {
+// With the escaped quotes, which stand above the detail where tokens were written.
+pub fn tokenize_escaped(text: &[u8], [dialect, joins, named]: Settings, records: &mut [u8]) -> (Answer, u64) {
+    let (number, detail) = unpacked(unsafe {
         ventpeeler_tokenize(text.as_ptr(), text.len(), dialect, joins, named, records.as_mut_ptr(), records.len())
-    })
+    });
+    if number == DONE { ((DONE, detail & 0xFFFF_FFFF), detail >> 32) } else { ((number, detail), 0) }
+}
+
+pub fn tokenize(text: &[u8], settings: Settings, records: &mut [u8]) -> Answer {
+    tokenize_escaped(text, settings, records).0
 }
 
 pub fn tighten(text: &[u8], [dialect, joins, named]: Settings, output: &mut [u8]) -> Answer {

@@ -9,12 +9,14 @@ pub struct Inputs {
     pub lent: usize,
 }
 
-// A call on the inputs that stand, with the numbers of its line, and what it must have written.
+// A call on the inputs that stand, with the numbers of its line, the escaped quotes that it must tell, and what it must have
+// written.
 pub struct Check {
     pub line: usize,
     pub mark: char,
     pub inputs: Inputs,
     pub numbers: Vec<u64>,
+    pub escaped: u64,
     pub records: Vec<Vec<u64>>,
     pub text: Vec<u8>,
 }
@@ -94,9 +96,10 @@ impl Check {
         }
     }
 
-    // Whether the line is what the call must have written.
+    // Whether the line is what the call must have told or written.
     fn take(&mut self, mark: &str, rest: &str) -> bool {
         match mark {
+            "e" => self.escaped = numbers(rest)[0],
             "r" => self.records.push(numbers(rest)),
             "n" => self.go_on(numbers(rest)[0]),
             "t" => self.text = unescape(rest),
@@ -124,6 +127,7 @@ pub fn checks(usual: &str, mark: char) -> Vec<Check> {
             mark: mark.chars().next().unwrap(),
             inputs: inputs.clone(),
             numbers: numbers(rest),
+            escaped: 0,
             records: Vec::new(),
             text: Vec::new(),
         });

@@ -139,7 +139,7 @@ def own_parts(tokens):
 
 def accepted(statement, dialect, joins, named_, sheet):
     """Number and detail of a refusal, or the tokens with their parts, and the sheet."""
-    number, detail, _ = reading.answer(statement, dialect, joins, named_, len(statement))
+    number, detail, _, _ = reading.answer(statement, dialect, joins, named_, len(statement))
     if number != 0:
         return (number, detail), None, None
     read = read_sheet(sheet)

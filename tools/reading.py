@@ -333,11 +333,15 @@ GENERIC, POSTGRESQL, SQLSERVER = range(3)
 
 
 class Token:
-    def __init__(self, kind, value, key=None, alias=None):
+    """`escaped` is how many quotes take_till_escaping passed as escaped on its way
+    to the token's closing quote (document 02, request [2])."""
+
+    def __init__(self, kind, value, key=None, alias=None, escaped=0):
         self.kind = kind
         self.value = value
         self.key = key
         self.alias = value if alias is None else alias
+        self.escaped = escaped
 
 
 class Named:
@@ -501,9 +505,10 @@ def get_comment_token(input):
 def take_till_escaping(desired, escapes):
     """The text before the first `desired` that no escape stands before; all the
     rest where there is none. An escape and the `desired` after it are passed
-    together."""
+    together; `pairs` says how often in the last parse."""
 
     def parse(input):
+        parse.pairs = 0
         chars = input.rest()
         pos = 0
         while True:
@@ -514,6 +519,7 @@ def take_till_escaping(desired, escapes):
             # escape?
             if item in escapes and following == desired:
                 # consume this and next char
+                parse.pairs += 1
                 pos += 2
                 continue
             if item == desired:
@@ -526,48 +532,50 @@ def take_till_escaping(desired, escapes):
 def get_string_token(input, dialect):
     start = input.at
     first = any_(input)
+    before = ()
     if first == "`":
-        arm = seq(take_till_escaping("`", ("`",)), any_)
+        till = take_till_escaping("`", ("`",))
     elif first == "[" and dialect == SQLSERVER:
-        arm = seq(take_till_escaping("]", ("]",)), any_)
+        till = take_till_escaping("]", ("]",))
     elif first == '"':
-        arm = seq(take_till_escaping('"', ('"', "\\")), any_)
+        till = take_till_escaping('"', ('"', "\\"))
     elif first == "'":
-        arm = seq(take_till_escaping("'", ("'", "\\")), any_)
+        till = take_till_escaping("'", ("'", "\\"))
     elif first == "N":
-        arm = seq(literal("'"), take_till_escaping("'", ("'", "\\")), any_)
+        before, till = (literal("'"),), take_till_escaping("'", ("'", "\\"))
     elif first == "E":
-        arm = seq(literal("'"), take_till_escaping("'", ("'", "\\")), any_)
+        before, till = (literal("'"),), take_till_escaping("'", ("'", "\\"))
     elif first == "x":
-        arm = seq(literal("'"), take_till_escaping("'", ()), any_)
+        before, till = (literal("'"),), take_till_escaping("'", ())
     elif first == "X":
-        arm = seq(literal("'"), take_till_escaping("'", ()), any_)
+        before, till = (literal("'"),), take_till_escaping("'", ())
     else:
-        arm = fail
-    if arm(input) is None:
         return None
-    return Token(STRING, input.text[start : input.at])
+    if seq(*before, till, any_)(input) is None:
+        return None
+    return Token(STRING, input.text[start : input.at], escaped=till.pairs)
 
 
 def get_placeholder_string_token(input, dialect):
     """Like above but it doesn't replace double quotes"""
     start = input.at
     first = any_(input)
+    before = ()
     if first == "`":
-        arm = seq(take_till_escaping("`", ("`",)), any_)
+        till = take_till_escaping("`", ("`",))
     elif first == "[" and dialect == SQLSERVER:
-        arm = seq(take_till_escaping("]", ("]",)), any_)
+        till = take_till_escaping("]", ("]",))
     elif first == '"':
-        arm = seq(take_till_escaping('"', ("\\",)), any_)
+        till = take_till_escaping('"', ("\\",))
     elif first == "'":
-        arm = seq(take_till_escaping("'", ("\\",)), any_)
+        till = take_till_escaping("'", ("\\",))
     elif first == "N":
-        arm = seq(literal("'"), take_till_escaping("'", ("\\",)), any_)
+        before, till = (literal("'"),), take_till_escaping("'", ("\\",))
     else:
-        arm = fail
-    if arm(input) is None:
         return None
-    return Token(STRING, input.text[start : input.at])
+    if seq(*before, till, any_)(input) is None:
+        return None
+    return Token(STRING, input.text[start : input.at], escaped=till.pairs)
 
 
 def get_open_paren_token(input, dialect):
@@ -673,15 +681,14 @@ def get_braced_named_placeholder_token(input):
 
 
 def get_string_named_placeholder_token(input, dialect):
-    token = seq(
-        one_of(lambda item: item in "@:"),
-        lambda input: get_placeholder_string_token(input, dialect),
-    )(input)
-    if token is None:
+    mark = one_of(lambda item: item in "@:")(input)
+    string = None if mark is None else get_placeholder_string_token(input, dialect)
+    if string is None:
         return None
+    token = mark + string.value
     text = token[2 : len(token) - 1]
     index = get_escaped_placeholder_key(text, token[len(token) - 1 :])
-    return Token(PLACEHOLDER, token, Named(2, text, index))
+    return Token(PLACEHOLDER, token, Named(2, text, index), escaped=string.escaped)
 
 
 def get_escaped_placeholder_key(key, quote_char):
@@ -1188,11 +1195,14 @@ def records(tokens):
     return listed
 
 
+def tokens_of(statement, dialect, joins, named):
+    """The tokens of a statement (bytes, UTF-8) under accepted settings."""
+    return tokenize_text(statement.decode("utf-8"), named == 1, dialect, joins == 1)
+
+
 def tokenize(statement, dialect, joins, named):
-    """The records of a statement (bytes, UTF-8) under accepted settings."""
-    return records(
-        tokenize_text(statement.decode("utf-8"), named == 1, dialect, joins == 1)
-    )
+    """Their records."""
+    return records(tokens_of(statement, dialect, joins, named))
 
 
 def first_ill_formed(statement):
@@ -1227,25 +1237,25 @@ def first_ill_formed(statement):
 
 
 def answer(statement, dialect, joins, named, records_lent):
-    """Number, detail and records of the call tokenise."""
+    """Number, detail, escaped quotes and records of the call tokenise."""
     if dialect not in (0, 1, 2) or joins not in (0, 1) or named not in (0, 1):
-        return 3, 0, []
+        return 3, 0, 0, []
     if len(statement) > 65536:
-        return 1, len(statement), []
+        return 1, len(statement), 0, []
     ill_formed = first_ill_formed(statement)
     if ill_formed is not None:
-        return 2, ill_formed, []
-    listed = tokenize(statement, dialect, joins, named)
-    if records_lent < len(listed):
-        return 4, len(listed), []
-    return 0, len(listed), listed
+        return 2, ill_formed, 0, []
+    tokens = tokens_of(statement, dialect, joins, named)
+    if records_lent < len(tokens):
+        return 4, len(tokens), 0, []
+    return 0, len(tokens), sum(token.escaped for token in tokens), records(tokens)
 
 
 def main(arguments):
     settings = [int(argument) for argument in arguments]
     settings += [0] * (3 - len(settings))
     statement = sys.stdin.buffer.read()
-    number, detail, listed = answer(statement, *settings, 65536)
+    number, detail, _, listed = answer(statement, *settings, 65536)
     if number != 0:
         print(f"refused {number}")
         return

@@ -46,7 +46,7 @@ def tight(statement, records):
 
 def answer(statement, dialect, joins, named, lent):
     """Number, detail and text of the call tighten."""
-    number, detail, records = reading.answer(statement, dialect, joins, named, len(statement))
+    number, detail, _, records = reading.answer(statement, dialect, joins, named, len(statement))
     if number != 0:
         return number, detail, b""
     text = tight(statement, records)

@@ -48,8 +48,9 @@ by tools/tokenize_vectors.py.
 
 class Tokenized(Searches):
     def expect(self, statement, options):
-        number, detail, records = reading.answer(statement, *options)
+        number, detail, escaped, records = reading.answer(statement, *options)
         self.check("=", number, detail)
+        self.escaped(escaped)
         self.records(records)
 
 
@@ -664,6 +665,48 @@ def characters(vectors):
 
 
 # --------------------------------------------------------------------------
+# Escaped quotes
+
+# How many quotes are escaped in a text: worked out by hand from document 02's
+# request [2] and what document 01 says of each opener. Dialect, text, count.
+ESCAPED = (
+    (0, "'a''b'", 1), (0, "'a\\'b'", 1), (0, "''''", 1), (0, '"\\""', 1), (0, "x'\\'", 0), (0, "`a``b`", 1),
+    (2, "[a]]b]", 1), (0, "[a]]b]", 0), (1, "[a]]b]", 0), (0, "@'a\\'b'", 1), (0, "@'a''", 0), (0, "@`a``b`", 1),
+    (2, "@[a]]b]", 1), (0, "@[a]]b]", 0), (0, "@N'a'", 0), (0, "@N'a\\'b'", 1), (0, "N'a''b'", 1),
+    (0, "E'a\\'b'", 1), (0, "X'a''b'", 0), (0, "'a''''b'", 2), (0, "'\\''''", 2), (0, "''", 0), (0, "'''", 0), (0, "'''''", 1),
+    (0, "'a\\\\'", 0), (0, "'a\\\\''", 1), (0, '@"a\\"b"', 1), (0, '@"a""b"', 0), (0, ":'\\''", 1), (0, ":`````", 1),
+    (0, "'a' 'b''c' \"d\\\"\" @'\\''", 3), (0, "'a''b", 0), (0, "'a\\'b", 0), (0, "@'a\\'b", 0), (0, "`a``b", 0), (2, "[a]]b", 0),
+    (0, "{'a''b'}", 0), (0, "--'a''b'", 0), (0, "/*'a''b'*/", 0), (0, "'板''板'", 1),
+)  # fmt: skip
+
+
+def escaped_quotes(vectors):
+    vectors.group("escaped quotes, counted by hand; those of document 02 among them")
+    for dialect, text, expected in ESCAPED:
+        _, _, got, _ = reading.answer(text.encode("utf-8"), dialect, 0, 0, MANY)
+        if got != expected:
+            sys.exit(f"escaped quotes of {text!r}: the reading has {got}, not {expected}")
+        vectors.every_setting(text)
+    vectors.group("each opener: a pair at the start, at the end, twice in a row, apart, and in an attempt that becomes no token")
+    for opener, quote in (
+        ("'", "'"), ('"', '"'), ("`", "`"), ("[", "]"), ("N'", "'"), ("E'", "'"), ("x'", "'"), ("X'", "'"),
+        ("@'", "'"), (':"', '"'), ("@`", "`"), ("@[", "]"), ("@N'", "'"), (":N'", "'"),
+    ):  # fmt: skip
+        for pair in (quote + quote, "\\" + quote):
+            for inside in (
+                "", pair, pair + "a", "a" + pair, pair + pair, pair + "a" + pair, pair * 3, "\\" + pair, pair + "\\", "a" + quote, "é" + pair,
+            ):  # fmt: skip
+                vectors.every_dialect(opener + inside + quote)
+                vectors.every_dialect(opener + inside)
+                vectors.case("a=" + opener + inside + quote + " AND " + opener + pair + quote, SQLSERVER)
+    vectors.group("many escaped quotes")
+    vectors.case("'" + "''" * 32767 + "'")
+    vectors.case('@"' + '\\"' * 32766 + '"a')
+    vectors.case("''''" * 16384)
+    vectors.case("'" + "''" * 32767 + "'", lent=0)
+
+
+# --------------------------------------------------------------------------
 # Refusals
 
 
@@ -836,6 +879,7 @@ GROUPS_OF_CASES = (
     memory,
     if_exists_and_case,
     strings,
+    escaped_quotes,
     placeholders,
     numbers,
     comments,
@@ -849,7 +893,7 @@ GROUPS_OF_CASES = (
 
 
 def main():
-    vectors = Tokenized(ABOUT, "sfo=rn")
+    vectors = Tokenized(ABOUT, "sfo=ern")
     for group in GROUPS_OF_CASES:
         group(vectors)
     vectors.print()

@@ -33,6 +33,7 @@ LINES = {
         "a check: the lookup at place P with counter C gives number N, detail D, counter A afterwards, and a part of"
         " the statement (S 0) or of the sheet (S 1) that starts at byte B",
     ),
+    "e": ("e N", "the same: in the tokens handed out N quotes are escaped; none where no such line stands"),
     "r": ("r K S L A K A B", "that call has written this record, the next one from the first on"),
     "n": ("n N", "the same: N more like the last record, each starting where the one before it ends"),
     "t": ("t TEXT", "that call has written this text, or handed it back"),
@@ -141,6 +142,10 @@ class VectorFile:
 
     def check(self, mark, *numbers):
         self.numbers(mark, numbers)
+
+    def escaped(self, count):
+        if count:
+            self.numbers("e", [count])
 
     def text(self, text):
         if text:

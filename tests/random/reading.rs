@@ -2,12 +2,14 @@
 // The wrong properties at the end show that a false one is found out.
 #[path = "../calls.rs"]
 mod calls;
+mod escapes;
 mod gaps;
 mod lists;
 mod properties;
 mod texts;
 
 use calls::*;
+use escapes::escaped_in;
 use lists::{has_lone_cr, list, records, tight, tight_by_rule, tokens, Key, Token};
 use properties::*;
 use texts::Chance;
@@ -111,6 +113,50 @@ fn gaps_are_white_space(case: &Case) -> Verdict {
                 }
             })
     })
+}
+
+// The escaped quotes that tokenize tells of an accepted text; a table with room for all tokens.
+fn escaped_told(text: &[u8], settings: Settings) -> Option<u64> {
+    let mut table = vec![0; text.len() * RECORD];
+    match tokenize_escaped(text, settings, &mut table) {
+        ((DONE, _), escaped) => Some(escaped),
+        _ => None,
+    }
+}
+
+fn escaped_as(case: &Case, count: fn(u32, &str) -> u64) -> Verdict {
+    let (Some(told), Some(tokens)) = (escaped_told(&case.text, case.settings), tokens(&case.text, case.settings)) else {
+        return Aside;
+    };
+    let value = |token: &Token| std::str::from_utf8(token.value(&case.text)).unwrap_or("").to_string();
+    let counted: u64 = tokens.iter().map(|token| count(token.kind, &value(token))).sum();
+    holds(told == counted, || format!("{} are told, and the values have {}", told, counted))
+}
+
+fn escaped_by_value(case: &Case) -> Verdict {
+    escaped_as(case, escaped_in)
+}
+
+fn tight_has_the_escapes(case: &Case) -> Verdict {
+    if has_lone_cr(&case.text) {
+        return Aside;
+    }
+    let Some(tight) = tight(&case.text, case.settings) else { return Aside };
+    let told = [&case.text, &tight].map(|text| escaped_told(text, case.settings));
+    holds(told[0] == told[1], || format!("{:?}", told))
+}
+
+// Those in strings alone.
+fn escaped_by_half(kind: u32, value: &str) -> u64 {
+    if kind == STRING { escaped_in(kind, value) } else { 0 }
+}
+
+fn wrong_no_placeholders(case: &Case) -> Verdict {
+    escaped_as(case, escaped_by_half)
+}
+
+fn wrong_backslashes_alone(case: &Case) -> Verdict {
+    escaped_as(case, |kind, value| if kind == STRING || kind == PLACEHOLDER { value.matches('\\').count() as u64 } else { 0 })
 }
 
 // The calls with so many bytes lent: the answer is right, what lies past the written part is kept, nothing is written under a
@@ -261,6 +307,8 @@ fn main() {
         right("kinds are 0 to 15; only placeholders have keys", kinds_are_known),
         right("aliases are CREATE or SELECT of a phrase so typed, else the value", aliases),
         right("gaps are White_Space, all of a run, and nothing else starts with any", gaps_are_white_space),
+        right("escaped quotes are those that the tokens' values have", escaped_by_value),
+        right("no lone CR: the tight text has as many escaped quotes", tight_has_the_escapes),
         right("a table: exactly full, one byte short, odd bytes, the rest kept", table_is_told),
         right("an output: exactly full, one byte short, the rest kept", output_is_told),
         right("what the buffers held makes no difference", content_is_no_matter),
@@ -274,6 +322,8 @@ fn main() {
         wrong("WRONG: the tight text has the search's tokens, lone CR or not", compared_with_tight),
         wrong("WRONG: searches that differ in white space alone have one tight text", wrong_white_space),
         wrong("WRONG: different searches have different tight texts", wrong_never_equal),
+        wrong("WRONG: no quotes are escaped in placeholders", wrong_no_placeholders),
+        wrong("WRONG: each backslash in a string escapes a quote, and nothing else does", wrong_backslashes_alone),
         wrong("WRONG: there is a token for every byte", wrong_one_token_a_byte),
     ];
     let mut chance = Chance::new(seed);

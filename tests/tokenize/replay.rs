@@ -7,7 +7,7 @@ mod replaying;
 #[path = "../vector_file.rs"]
 mod vector_file;
 
-use calls::{tokenize, DONE, RECORD};
+use calls::{tokenize_escaped, DONE, RECORD};
 use replaying::{Count, GUARD, PAST};
 use vector_file::Check;
 
@@ -21,8 +21,9 @@ fn run(check: &Check, table: &mut Vec<u8>, count: &mut Count) {
     if table.len() < lent + PAST * RECORD {
         table.resize(lent + PAST * RECORD, GUARD);
     }
-    let (number, detail) = tokenize(&check.inputs.statement, check.inputs.settings, &mut table[..lent]);
+    let ((number, detail), escaped) = tokenize_escaped(&check.inputs.statement, check.inputs.settings, &mut table[..lent]);
     count.check_answer(check.line, &[number, detail], &check.numbers);
+    count.check(check.line, escaped == check.escaped, || format!("{} escaped quotes, not {}", escaped, check.escaped));
     let written = if number == DONE { (detail as usize).min(check.inputs.lent) } else { 0 };
     let told = || format!("{} records are written, and {} are to be", written, check.records.len());
     count.check(check.line, written == check.records.len(), told);
