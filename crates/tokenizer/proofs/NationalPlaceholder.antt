@@ -1,9 +1,11 @@
--- `@N'ab'` in a statement, under all settings: Placeholder `@N` with the key `N`, and String `'ab'`. The identifier form is tried
--- before the string form, whose own answer is the key `'ab` (`national-key`, recognisers/proofs/NationalKey.antt).
+-- `@N'a'` and `@N'ab'` in a statement, under all settings: Placeholder `@N` with the key `N`, and a String, neither with an escaped
+-- quote. The identifier form is tried before the string form, whose own key begins with the quote (`national-key`,
+-- recognisers/proofs/NationalKey.antt).
 -- Assumes nothing.
+use Prim.Native.Nat.{ℕ}
 use mathlib.Core.Path.{_≡_, refl}
 use mathlib.Core.Bool.{Bool, true, false}
-use mathlib.Core.List.{[], _∷_}
+use mathlib.Core.List.{List, [], _∷_, map}
 use Rattle.unicode.specs.Ranges.{within, inRanges}
 use Rattle.unicode.specs.WhiteSpace.{whiteSpace}
 use Rattle.unicode.specs.Alphabetic.{alphabetic}
@@ -34,11 +36,15 @@ use Rattle.tokenizer.specs.Tokens.{givenOut, tokensFrom, tokens}
 abbrev placeholder : Token
 placeholder = record { kind = K.Placeholder; start = 0; len = 2; alias = 2; key = Named 1 1; escaped = 0 }
 
-abbrev string : Token
-string = record { kind = K.String; start = 2; len = 4; alias = 4; key = None; escaped = 0 }
+abbrev string : ℕ → Token
+string len = record { kind = K.String; start = 2; len = len; alias = len; key = None; escaped = 0 }
 
-pub national-placeholder : (dialect : Dialect) (joins named : Bool) → tokens (record { dialect = dialect; joins = joins; named = named }) (bytes "@N'ab'") ≡ placeholder ∷ string ∷ []
-unfolding within inRanges whiteSpace alphabetic numeric continuations continued firstBits withBits codePoint isWhitespace isAlphabetic isNumeric isAlphanumeric isPlaceholderNameCharacter run same one spelled typed capital count digit1 contains startsWith getTypeSpecifierToken getCommentToken takeTillEscaping closedBy hexTaken quotedTaken stringTaken pairsPassed pairsIn stringPairs getStringToken getOpenParenToken getCloseParenToken decimalNumber scientificNotation unsigned getNumberToken getWhitespaceToken isOperator getOperatorToken indexedTaken getIndexedPlaceholderToken placeholderName identTaken getIdentNamedPlaceholderToken getPlaceholderToken mayBeReserved getReservedWordToken takesTypeSpecifier afterBetween lastTopLevel remember remembered fromPlaceholder fromOperator fromReserved fromNumber fromCloseParen fromOpenParen fromString fromTypeSpecifier getNextToken nextPiece givenOut tokensFrom tokens
+-- a statement, and how long its string is
+pub nationals : List (List ℕ × ℕ)
+nationals = (bytes "@N'a'", 3) ∷ (bytes "@N'ab'", 4) ∷ []
+
+pub national-placeholder : (dialect : Dialect) (joins named : Bool) → map (λ w. tokens (record { dialect = dialect; joins = joins; named = named }) (w .0)) nationals ≡ map (λ w. placeholder ∷ string (w .1) ∷ []) nationals
+unfolding nationals within inRanges whiteSpace alphabetic numeric continuations continued firstBits withBits codePoint isWhitespace isAlphabetic isNumeric isAlphanumeric isPlaceholderNameCharacter run same one spelled typed capital count digit1 contains startsWith getTypeSpecifierToken getCommentToken takeTillEscaping closedBy hexTaken quotedTaken stringTaken pairsPassed pairsIn stringPairs getStringToken getOpenParenToken getCloseParenToken decimalNumber scientificNotation unsigned getNumberToken getWhitespaceToken isOperator getOperatorToken indexedTaken getIndexedPlaceholderToken placeholderName identTaken getIdentNamedPlaceholderToken getPlaceholderToken mayBeReserved getReservedWordToken takesTypeSpecifier afterBetween lastTopLevel remember remembered fromPlaceholder fromOperator fromReserved fromNumber fromCloseParen fromOpenParen fromString fromTypeSpecifier getNextToken nextPiece givenOut tokensFrom tokens
 national-placeholder Generic joins true = refl
 national-placeholder Generic joins false = refl
 national-placeholder PostgreSql joins true = refl
