@@ -17,6 +17,7 @@ use Rattle.tokenizer.specs.declared.TableAnswer.{TableAnswer}
 use Rattle.tokenizer.specs.declared.TableAnswer.the-variants.{Written, Refused}
 use Rattle.tokenizer.specs.Answers.{allWritten, tableAnswer, tokenizeAnswer}
 use Rattle.tokenizer.specs.EscapedQuotes.{escapedIn, totals}
+use Rattle.tokenizer.specs.Records.{recordBytes}
 use Rattle.tokenizer.specs.Tokens.{tokens}
 use Rattle.tokenizer.proofs.EndToEnd.{tokens-short}
 use Rattle.tokenizer.proofs.EscapedTotals.{few-escaped}
@@ -29,7 +30,7 @@ Small (Refused refusal) = Unit {0}
 module _ (s : List ℕ) (dialect joins named room : ℕ) where
   written-small : (settings : Settings) → length s ≤ longest → Small (tableAnswer settings s room)
   unfolding tableAnswer
-  written-small settings l = go (ltb (room / 28) (length (tokens settings s)))
+  written-small settings l = go (ltb (room / recordBytes) (length (tokens settings s)))
     where
       go : (t : Bool) → Small (cond t (Refused (TableFull (length (tokens settings s)))) (allWritten (totals (tokens settings s))))
       go true = tt

@@ -16,7 +16,7 @@ use Rattle.tokenizer.specs.declared.Token.{Token}
 use Rattle.tokenizer.specs.declared.Totals.{Totals}
 use Rattle.tokenizer.specs.EscapedQuotes.{escapedIn, totals}
 use Rattle.tokenizer.specs.NextToken.{nextPiece}
-use Rattle.tokenizer.specs.Records.{recordsOf}
+use Rattle.tokenizer.specs.Records.{recordBytes, recordsOf}
 use Rattle.tokenizer.specs.Tokens.{tokenAt, tokens}
 use Rattle.tokenizer.specs.Values.{value, values}
 use Rattle.tokenizer.proofs.EachToken.{Each, each-token}
@@ -78,9 +78,10 @@ module _ (settings : Settings) (s : List ℕ) where
 
 -- ---- the loop
 
-pub record Tabled (settings : Settings) (s before table : List ℕ) (at escaped : ℕ) (c : Cursor) : Type 0 where
-  pub wrote : Wrote recordWalk settings s (recordsOf (tokens settings s)) before table at tt c
+pub record Tabled (settings : Settings) (s before table : List ℕ) (at escaped level : ℕ) (c : Cursor) : Type 0 where
+  pub wrote : Wrote recordWalk settings s (recordsOf (tokens settings s)) before table at level c
+  pub low : level ≤ c .at
   pub marked : Counted escapedWalk settings s (allMarks (tokens settings s)) escaped tt c
 
-pub totals-are : (ts : List Token) (at escaped : ℕ) → at ≡ length (recordsOf ts) → escaped ≡ length (allMarks ts) → _≡_ {A = Totals} (record { tokens = at / 28; escaped = escaped }) (totals ts)
+pub totals-are : (ts : List Token) (at escaped : ℕ) → at ≡ length (recordsOf ts) → escaped ≡ length (allMarks ts) → _≡_ {A = Totals} (record { tokens = at / recordBytes; escaped = escaped }) (totals ts)
 totals-are ts at escaped e f = rw (records-count ts at e, f, all-marked ts)

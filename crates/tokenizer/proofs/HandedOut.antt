@@ -5,7 +5,7 @@ use native.Mathlib.Omega.{arith}
 use mathlib.Core.Path.{_≡_}
 use mathlib.Core.Bool.{Bool, true, false}
 use mathlib.Core.List.{List}
-use lib.ListN.{length, drop, length-drop}
+use lib.ListN.{length, drop, getD, length-drop}
 use Rattle.recognisers.specs.declared.Key.{Key}
 use Rattle.recognisers.specs.declared.Key.the-variants.{None, Named, Escaped, ZeroIndexed, OneIndexed}
 use Rattle.recognisers.specs.declared.Piece.{Piece}
@@ -18,10 +18,13 @@ use Rattle.tokenizer.specs.declared.Memory.{Memory}
 use Rattle.calls.specs.declared.Settings.{Settings}
 use Rattle.calls.specs.Checks.{longest}
 use Rattle.tokenizer.specs.declared.Token.{Token}
+use Rattle.tokenizer.specs.Levels.{levels}
 use Rattle.tokenizer.specs.NextToken.{nextPiece}
 use Rattle.tokenizer.specs.Records.{keyWords}
 use Rattle.tokenizer.specs.Tokens.{givenOut, placed, tokens}
 use Rattle.tokenizer.proofs.EachToken.{Each, each-token}
+use Rattle.tokenizer.proofs.EndToEnd.{tokens-short}
+use Rattle.tokenizer.proofs.LevelLaws.{levels-low}
 use Rattle.tokenizer.proofs.NextPieceSizes.{piece-sized}
 
 never-join : (joins : Bool) (kind : TokenKind) → kindNumber (givenOut joins kind) < 16
@@ -85,3 +88,7 @@ handed-out settings s l = each-token settings s Words32 (λ at. Unit {0}) one tt
           },
           tt,
         )
+
+-- the eighth word: no level is above the number of tokens before it
+pub levels-handed-out : (settings : Settings) (s : List ℕ) → length s ≤ longest → (i : ℕ) → i < length (tokens settings s) → getD (levels (tokens settings s)) i 0 < 2 ^ 32
+levels-handed-out settings s l i h = omega (arith, l, h, tokens-short settings s, levels-low (tokens settings s) i)

@@ -17,35 +17,35 @@ use Rattle.tokenizer.specs.declared.TableAnswer.the-variants.{Refused}
 use Rattle.tokenizer.specs.declared.Totals.{Totals}
 use Rattle.tokenizer.specs.Answers.{allWritten, tableAnswer, tableAfter, tokenizeAnswer, tokenizeRecords}
 use Rattle.tokenizer.specs.EscapedQuotes.{totals}
-use Rattle.tokenizer.specs.Records.{written}
+use Rattle.tokenizer.specs.Records.{recordBytes, written}
 use Rattle.tokenizer.specs.Tokens.{tokens}
 use Rattle.tokenizer.proofs.EndToEnd.{tokens-short}
 
 -- ---- the table
 
 module _ (settings : Settings) (s table : List ℕ) (n : ℕ) (c : n ≡ length (tokens settings s)) where
-  pub full-answer : length table / 28 < n → Refused (TableFull n) ≡ tableAnswer settings s (length table)
+  pub full-answer : length table / recordBytes < n → Refused (TableFull n) ≡ tableAnswer settings s (length table)
   unfolding tableAnswer
   full-answer f = rw (← c, lt-ltb _ _ f)
 
-  pub full-table : length table / 28 < n → table ≡ tableAfter settings s table
+  pub full-table : length table / recordBytes < n → table ≡ tableAfter settings s table
   unfolding tableAfter
   full-table f = rw (← c, lt-ltb _ _ f)
 
-  pub written-room : n ≤ length table / 28 → length (tokens settings s) * 28 ≤ length table
+  pub written-room : n ≤ length table / recordBytes → length (tokens settings s) * recordBytes ≤ length table
   written-room f = rw (← c) (omega arith)
 
-  pub written-answer : (answer : TableAnswer) (t : Totals) → n ≤ length table / 28 → t ≡ totals (tokens settings s) → answer ≡ allWritten t → answer ≡ tableAnswer settings s (length table)
+  pub written-answer : (answer : TableAnswer) (t : Totals) → n ≤ length table / recordBytes → t ≡ totals (tokens settings s) → answer ≡ allWritten t → answer ≡ tableAnswer settings s (length table)
   unfolding tableAnswer
   written-answer answer t f e g = g ∙ rw (e, ← c, le-ltb _ _ f)
 
-  pub written-table : (after : List ℕ) → n ≤ length table / 28 → after ≡ written (tokens settings s) table → after ≡ tableAfter settings s table
+  pub written-table : (after : List ℕ) → n ≤ length table / recordBytes → after ≡ written (tokens settings s) table → after ≡ tableAfter settings s table
   unfolding tableAfter
   written-table after f e = e ∙ rw (← c, le-ltb _ _ f)
 
 -- with a record for each byte
-module _ (settings : Settings) (s table : List ℕ) (f : length s ≤ length table / 28) where
-  pub byte-room : length (tokens settings s) * 28 ≤ length table
+module _ (settings : Settings) (s table : List ℕ) (f : length s ≤ length table / recordBytes) where
+  pub byte-room : length (tokens settings s) * recordBytes ≤ length table
   byte-room = let k = tokens-short settings s in omega arith
 
   pub byte-answer : (answer : TableAnswer) (t : Totals) → t ≡ totals (tokens settings s) → answer ≡ allWritten t → answer ≡ tableAnswer settings s (length table)

@@ -13,20 +13,20 @@ use Rattle.tokenizer.specs.declared.TableAnswer.{TableAnswer}
 use Rattle.tokenizer.specs.declared.TableAnswer.the-variants.{Written, Refused}
 use Rattle.tokenizer.specs.declared.Totals.{Totals}
 use Rattle.tokenizer.specs.Tokens.{tokens}
-use Rattle.tokenizer.specs.Records.{written}
+use Rattle.tokenizer.specs.Records.{recordBytes, written}
 use Rattle.tokenizer.specs.EscapedQuotes.{totals}
 
 abbrev pub allWritten : Totals → TableAnswer
 allWritten t = Written (t .tokens) (t .escaped)
 
--- whole records of 28 bytes in a table of so many bytes
+-- whole records in a table of so many bytes
 unfoldable pub tableAnswer : Settings → List ℕ → ℕ → TableAnswer
 tableAnswer settings s room =
-    cond (ltb (room / 28) (length (tokens settings s))) (Refused (TableFull (length (tokens settings s))))
+    cond (ltb (room / recordBytes) (length (tokens settings s))) (Refused (TableFull (length (tokens settings s))))
     (allWritten (totals (tokens settings s)))
 
 unfoldable pub tableAfter : Settings → List ℕ → List ℕ → List ℕ
-tableAfter settings s table = cond (ltb (length table / 28) (length (tokens settings s))) table (written (tokens settings s) table)
+tableAfter settings s table = cond (ltb (length table / recordBytes) (length (tokens settings s))) table (written (tokens settings s) table)
 
 -- the answer, for a statement, the settings as numbers and a table of so many bytes
 unfoldable pub tokenizeAnswer : List ℕ → ℕ → ℕ → ℕ → ℕ → TableAnswer

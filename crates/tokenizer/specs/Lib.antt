@@ -3,6 +3,7 @@ pub mod Memory
 pub mod NextToken
 pub mod Tokens
 pub mod EscapedQuotes
+pub mod Levels
 pub mod Records
 pub mod Answers
 pub mod Values

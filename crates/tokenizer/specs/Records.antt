@@ -1,4 +1,4 @@
--- Token records: seven 32-bit words, the lowest byte first.
+-- Token records: eight 32-bit words, the lowest byte first. The last is the token's level.
 use Prim.Native.Nat.{ℕ, _*_, _/_, _%_}
 use mathlib.Core.List.{List, [], _∷_, _++_}
 use lib.ListN.{length, drop}
@@ -8,6 +8,11 @@ use Rattle.recognisers.specs.Kinds.{kindNumber}
 use Rattle.calls.specs.LittleEndian.{le32}
 use Rattle.tokenizer.specs.declared.KeyWords.{KeyWords}
 use Rattle.tokenizer.specs.declared.Token.{Token}
+use Rattle.tokenizer.specs.Levels.{levels}
+
+-- the bytes of a record
+abbrev pub recordBytes : ℕ
+recordBytes = 32
 
 -- key kind, key a and key b; a number's high and low half
 abbrev pub keyWords : Key → KeyWords
@@ -24,13 +29,20 @@ placeBytes kind start len alias = le32 kind ++ (le32 start ++ (le32 len ++ le32 
 unfoldable pub keyBytes : KeyWords → List ℕ
 keyBytes k = le32 (k .kind) ++ (le32 (k .a) ++ le32 (k .b))
 
-unfoldable pub recordOf : Token → List ℕ
-recordOf t = placeBytes (kindNumber (t .kind)) (t .start) (t .len) (t .alias) ++ keyBytes (keyWords (t .key))
+-- the record of a token at a level
+unfoldable pub recordOf : ℕ → Token → List ℕ
+recordOf level t =
+    placeBytes (kindNumber (t .kind)) (t .start) (t .len) (t .alias) ++ (keyBytes (keyWords (t .key)) ++ le32 level)
+
+-- of each token at its level
+unfoldable pub recordsAt : List ℕ → List Token → List ℕ
+recordsAt [] ts = []
+recordsAt (level ∷ levels) [] = []
+recordsAt (level ∷ levels) (t ∷ ts) = recordOf level t ++ recordsAt levels ts
 
 unfoldable pub recordsOf : List Token → List ℕ
-recordsOf [] = []
-recordsOf (t ∷ ts) = recordOf t ++ recordsOf ts
+recordsOf ts = recordsAt (levels ts) ts
 
 -- a table once the tokens' records are written over its start
 unfoldable pub written : List Token → List ℕ → List ℕ
-written ts table = recordsOf ts ++ drop (length ts * 28) table
+written ts table = recordsOf ts ++ drop (length ts * recordBytes) table

@@ -5,12 +5,14 @@ use recognisers::TokenKind;
 use reserved::TopLevel;
 
 mod choice;
+mod levels;
 mod records;
 mod remembering;
 mod stepping;
 mod table;
 mod tokenizing;
 
+pub use levels::level_past;
 pub use records::key_words;
 pub use stepping::at_start;
 pub use stepping::next_step;

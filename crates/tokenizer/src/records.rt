@@ -1,4 +1,4 @@
-// Token records: seven 32-bit words, the lowest byte first.
+// Token records: eight 32-bit words, the lowest byte first.
 use crate::KeyWords;
 use crate::Token;
 use calls::put_le32;
@@ -6,9 +6,13 @@ use recognisers::Key;
 use recognisers::kind_number;
 ghost use mathlib.Core.Path.{_≡_};
 ghost use Prim.Native.Nat.{_+_, _≤_};
+ghost use mathlib.Core.List.{_++_};
 ghost use lib.ListN.{length};
 ghost use lib.Seq.{sets};
-ghost use Rattle.tokenizer.specs.Records.{keyWords, placeBytes, keyBytes, recordOf};
+ghost use Rattle.calls.specs.LittleEndian.{le32};
+ghost use Rattle.tokenizer.specs.Records.{recordBytes, keyWords, placeBytes, keyBytes, recordOf};
+
+pub const RECORD_BYTES: usize = 32;
 
 pub fn key_words(key: Key) -> KeyWords
     ensures { λ r. ⌜ r ≡ keyWords key ⌝ }
@@ -52,23 +56,24 @@ fn put_place(table: &mut [u8], at: usize, kind: u64, start: usize, len: usize, a
     put_le32(table, at + 12, alias as u64);
 }
 
-fn put_key(table: &mut [u8], at: usize, key: KeyWords)
-    requires { ⌜ at + 12 ≤ length (now table) ⌝ }
-    ensures { λ _. ⌜ now (table .exit) ≡ sets (now (table .entry)) at (keyBytes key) ⌝ }
+fn put_key(table: &mut [u8], at: usize, key: KeyWords, level: usize)
+    requires { ⌜ at + 16 ≤ length (now table) ⌝ }
+    ensures { λ _. ⌜ now (table .exit) ≡ sets (now (table .entry)) at (keyBytes key ++ le32 level) ⌝ }
 {
     put_le32(table, at, key.kind);
     put_le32(table, at + 4, key.a);
     put_le32(table, at + 8, key.b);
+    put_le32(table, at + 12, level as u64);
 }
 
-pub fn put_record(table: &mut [u8], at: usize, token: Token)
-    requires { ⌜ at + 28 ≤ length (now table) ⌝ }
-    ensures { λ _. ⌜ now (table .exit) ≡ sets (now (table .entry)) at (recordOf token) ⌝ }
+pub fn put_record(table: &mut [u8], at: usize, level: usize, token: Token)
+    requires { ⌜ at + recordBytes ≤ length (now table) ⌝ }
+    ensures { λ _. ⌜ now (table .exit) ≡ sets (now (table .entry)) at (recordOf level token) ⌝ }
 {
     let kind = token.kind;
     let key = token.key;
     let words = key_words(key);
     let number = kind_number(kind);
     put_place(table, at, number, token.start, token.len, token.alias);
-    put_key(table, at + 16, words);
+    put_key(table, at + 16, words, level);
 }

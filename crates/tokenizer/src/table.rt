@@ -2,6 +2,8 @@
 use crate::Step;
 use crate::TableAnswer;
 use crate::Totals;
+use crate::levels::level_past;
+use crate::records::RECORD_BYTES;
 use crate::records::put_record;
 use crate::stepping::at_start;
 use crate::stepping::next_step;
@@ -11,7 +13,7 @@ ghost use mathlib.Core.Path.{_≡_};
 ghost use Prim.Native.Nat.{_*_, _≤_};
 ghost use lib.ListN.{length};
 ghost use Rattle.tokenizer.specs.Tokens.{tokens};
-ghost use Rattle.tokenizer.specs.Records.{written};
+ghost use Rattle.tokenizer.specs.Records.{recordBytes, written};
 ghost use Rattle.tokenizer.specs.EscapedQuotes.{totals};
 ghost use Rattle.tokenizer.specs.Answers.{allWritten, tableAnswer, tableAfter};
 
@@ -34,24 +36,27 @@ pub fn count_tokens(statement: &[u8], settings: Settings) -> usize
 }
 
 fn write_tokens(statement: &[u8], settings: Settings, table: &mut [u8]) -> Totals
-    requires { ⌜ length (tokens settings (now statement)) * 28 ≤ length (now table) ⌝ }
+    requires { ⌜ length (tokens settings (now statement)) * recordBytes ≤ length (now table) ⌝ }
     ensures { λ r. ⌜ r ≡ totals (tokens settings (now (statement .entry))) ⌝ }
     ensures { λ _. ⌜ now (table .exit) ≡ written (tokens settings (now (statement .entry))) (now (table .entry)) ⌝ }
 {
     let mut at = 0;
     let mut escaped = 0;
+    let mut level = 0;
     let mut cursor = at_start();
     loop {
         match next_step(statement, settings, cursor) {
             Step::Token(token, next) => {
-                put_record(table, at, token);
-                at += 28;
+                put_record(table, at, level, token);
+                at += RECORD_BYTES;
                 escaped += token.escaped;
+                let kind = token.kind;
+                level = level_past(level, kind);
                 cursor = next;
             }
             Step::Done => {
                 return Totals {
-                    tokens: at / 28,
+                    tokens: at / RECORD_BYTES,
                     escaped: escaped,
                 };
             }
@@ -74,7 +79,7 @@ fn write_counted(statement: &[u8], settings: Settings, table: &mut [u8]) -> Tabl
     ensures { λ _. ⌜ now (table .exit) ≡ tableAfter settings (now (statement .entry)) (now (table .entry)) ⌝ }
 {
     let count = count_tokens(statement, settings);
-    if table.len() / 28 < count {
+    if table.len() / RECORD_BYTES < count {
         return TableAnswer::Refused(Refusal::TableFull(count as u64));
     }
     all_written(write_tokens(statement, settings, table))
@@ -85,7 +90,7 @@ pub fn write_table(statement: &[u8], settings: Settings, table: &mut [u8]) -> Ta
     ensures { λ r. ⌜ r ≡ tableAnswer settings (now (statement .entry)) (length (now (table .entry))) ⌝ }
     ensures { λ _. ⌜ now (table .exit) ≡ tableAfter settings (now (statement .entry)) (now (table .entry)) ⌝ }
 {
-    if table.len() / 28 < statement.len() {
+    if table.len() / RECORD_BYTES < statement.len() {
         return write_counted(statement, settings, table);
     }
     all_written(write_tokens(statement, settings, table))

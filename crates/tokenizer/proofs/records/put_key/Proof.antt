@@ -18,6 +18,12 @@ add-put-le32-2 c = search needs
 put-le32-requires-3 : tie.Need-put-le32-requires-3
 put-le32-requires-3 c κs = search needs
 
+add-put-le32-3 : tie.Need-add-put-le32-3
+add-put-le32-3 c = search needs
+
+put-le32-requires-4 : tie.Need-put-le32-requires-4
+put-le32-requires-4 c κs = search needs
+
 same-length : tie.Need-same-length
 same-length c = search needs
 
@@ -33,5 +39,7 @@ put-key-spec =
     put-le32-requires-2
     add-put-le32-2
     put-le32-requires-3
+    add-put-le32-3
+    put-le32-requires-4
     same-length
     returns)
