@@ -1,5 +1,5 @@
 // Reads a statement from standard input, reads it with the default settings (Generic, joins 0, named placeholders 0), and
-// prints a line with the count of tokens and the seven fields of each record; or `refused` and the number.
+// prints a line with the count of tokens and the eight fields of each record; or `refused` and the number.
 use calls::Checked;
 use calls::Settings;
 use calls::check;
@@ -17,10 +17,9 @@ fn print_key(key: KeyWords) {
     print_next(key.kind);
     print_next(key.a);
     print_next(key.b);
-    print(b"\n");
 }
 
-fn print_token(token: Token) {
+fn print_token(token: Token, level: usize) {
     let kind = token.kind;
     let key = token.key;
     print_number(recognisers::kind_number(kind));
@@ -28,14 +27,19 @@ fn print_token(token: Token) {
     print_next(token.len as u64);
     print_next(token.alias as u64);
     print_key(tokenizer::key_words(key));
+    print_next(level as u64);
+    print(b"\n");
 }
 
 fn print_tokens(statement: &[u8], settings: Settings) {
+    let mut level = 0;
     let mut cursor = tokenizer::at_start();
     loop {
         match tokenizer::next_step(statement, settings, cursor) {
             Step::Token(token, next) => {
-                print_token(token);
+                print_token(token, level);
+                let kind = token.kind;
+                level = tokenizer::level_past(level, kind);
                 cursor = next;
             }
             Step::Done => {

@@ -1,21 +1,22 @@
-use Prim.Native.Nat.{_-_}
+use Prim.Native.Nat.{_-_, _≤_}
 use lib.ListN.{length}
 use borrow.Author.Needs.{needs}
+use Rattle.tokenizer.proofs.LevelLaws.{level-fits, level-low-past, level-low-start}
 use Rattle.tokenizer.proofs.Steps.{step-less}
 use Rattle.listing.proofs.print_tokens.Statement.{statement}
 use Rattle.listing.proofs.print_tokens.Tie as tie
 
 abbrev Inv-loop : tie.InvT-loop
-Inv-loop statement settings cursor₀ cursor = Unit {0}
+Inv-loop statement settings level₀ cursor₀ level cursor = level ≤ cursor .at
 
 abbrev μ-loop : tie.MeasureT-loop
-μ-loop statement settings cursor₀ cursor = length statement - cursor .at
+μ-loop statement settings level₀ cursor₀ level cursor = length statement - cursor .at
 
 at-start-requires : tie.Need-at-start-requires Inv-loop μ-loop
 at-start-requires c κs = search needs
 
 loop-holds : tie.Need-loop-holds Inv-loop μ-loop
-loop-holds c = tt
+loop-holds c = search level-low-start
 
 next-step-requires : tie.Need-next-step-requires Inv-loop μ-loop
 next-step-requires c κs = search needs
@@ -26,11 +27,14 @@ enum-known-token c = search needs
 print-token-requires : tie.Need-print-token-requires Inv-loop μ-loop
 print-token-requires c κs = search needs
 
+level-past-requires : tie.Need-level-past-requires Inv-loop μ-loop
+level-past-requires c κs = search level-fits
+
 loop-less : tie.Need-loop-less Inv-loop μ-loop
 loop-less c = search step-less
 
 loop-again : tie.Need-loop-again Inv-loop μ-loop
-loop-again c = tt
+loop-again c = search level-low-past
 
 enum-told : tie.Need-enum-told Inv-loop μ-loop
 enum-told c = search needs
@@ -49,6 +53,7 @@ print-tokens-spec =
     next-step-requires
     enum-known-token
     print-token-requires
+    level-past-requires
     loop-less
     loop-again
     enum-told
