@@ -2,7 +2,7 @@
  * Ventpeeler: reads a planner's search, written as SQL, into tokens; makes its tight text; puts values in for its
  * placeholders. C99 and C++. Link target/staticlib/libventpeeler.a (x86-64 Linux); it needs no other library.
  *
- *     ventpeeler_tokenize   the tokens, as records of 28 bytes
+ *     ventpeeler_tokenize   the tokens, as records of VENTPEELER_RECORD_BYTES
  *     ventpeeler_tighten    the tight text, a key for the search
  *     ventpeeler_fill       the search with the values of a sheet put in
  *
@@ -27,12 +27,12 @@
  * setting are judged: a dialect of 2^32 + 1 is refused.
  *
  * A refusal (1 to 6) writes nothing. On success the first bytes lent are written and what lies past them is kept: past the
- * last record, or past the text, and also the odd bytes of a table that is no multiple of 28 bytes. What a buffer lent for
- * writing held before makes no difference. No text is ended by a zero byte, and a zero byte is a character like others.
+ * last record, or past the text, and also the odd bytes of a table that is no multiple of VENTPEELER_RECORD_BYTES. What a
+ * buffer lent for writing held before makes no difference. No text is ended by a zero byte, and a zero byte is a character like others.
  *
  * To learn a size first, lend no bytes: the answer is then 4 or 6 with the size, or 0 where nothing is to be written.
- * Sizes that always suffice: 28 * statement_len for the records, statement_len for the tight text. A filled text can be
- * longer than the statement and all values together, since a value may be put in many times.
+ * Sizes that always suffice: VENTPEELER_RECORD_BYTES * statement_len for the records, statement_len for the tight text. A
+ * filled text can be longer than the statement and all values together, since a value may be put in many times.
  *
  * POINTERS
  *
@@ -58,6 +58,8 @@
  *     1   had no VENTPEELER_VERSION
  *     2   tokenize's answer under 0 holds the escaped quotes above the detail. Whoever took answer & (2^56 - 1) for the count
  *         of tokens must take ventpeeler_detail(answer), which are the low 32 bits then. All else is as it was
+ *     3   a record has an eighth word, the level, and so VENTPEELER_RECORD_BYTES grew. Tables that were large enough for all
+ *         tokens may be too small now; records kept from before don't fit ventpeeler_token_at
  */
 #ifndef VENTPEELER_H
 #define VENTPEELER_H
@@ -69,12 +71,12 @@
 extern "C" {
 #endif
 
-#define VENTPEELER_VERSION 2
+#define VENTPEELER_VERSION 3
 
 #define VENTPEELER_STATEMENT_MOST 65536 /* bytes of a statement */
 #define VENTPEELER_SHEET_LEAST 3        /* bytes of a sheet */
 #define VENTPEELER_SHEET_MOST 65536
-#define VENTPEELER_RECORD_BYTES 28
+#define VENTPEELER_RECORD_BYTES 32      /* of a token */
 #define VENTPEELER_STACK_BYTES 16384
 
 enum ventpeeler_answer {
@@ -133,7 +135,13 @@ enum ventpeeler_key {
     VENTPEELER_KEY_ONE_INDEXED = 4
 };
 
-/* A record: in the table its seven words stand in this order, 32 bits each, little-endian. */
+/*
+ * A record: in the table its eight words stand in this order, 32 bits each, little-endian.
+ *
+ * The level of a token is how many OpenParens are open before it: it starts at 0, an OpenParen raises it by 1 for what follows, a
+ * CloseParen lowers it by 1 for what follows, unless it is 0. So a paren and the one that closes it differ by 1, and a gap has
+ * a level too. CASE and END count, and [ and ] in PostgreSql.
+ */
 struct ventpeeler_token {
     uint32_t kind;         /* enum ventpeeler_kind */
     uint32_t start;        /* of the value, in bytes from the statement's start */
@@ -143,10 +151,11 @@ struct ventpeeler_token {
     uint32_t key;          /* enum ventpeeler_key */
     uint32_t a;
     uint32_t b;
+    uint32_t level;
 };
 
 /*
- * Writes a record for each token. A table holds records_len / 28 records. The answer tells besides how many quotes are escaped in
+ * Writes a record for each token. A table holds records_len / VENTPEELER_RECORD_BYTES records. The answer tells besides how many quotes are escaped in
  * the tokens written, at most 32,768 (ventpeeler_escaped): in Strings a doubled quote, as 'a''b' and [a]]b], and in single and
  * double quotes also one behind a backslash, as 'a\'b'; in placeholders of the form @'a' one behind a backslash, and in backticks
  * and brackets a doubled one. x'' and X'' know no escapes. What became no token counts nothing.
@@ -227,12 +236,13 @@ static inline struct ventpeeler_token ventpeeler_token_at(const uint8_t *records
     const uint8_t *record = records + index * VENTPEELER_RECORD_BYTES;
     struct ventpeeler_token token;
     token.kind = ventpeeler_word(record);
-    token.start = ventpeeler_word(record + 4);
-    token.length = ventpeeler_word(record + 8);
-    token.alias_length = ventpeeler_word(record + 12);
-    token.key = ventpeeler_word(record + 16);
-    token.a = ventpeeler_word(record + 20);
-    token.b = ventpeeler_word(record + 24);
+    token.start = ventpeeler_word(record + 4 * 1);
+    token.length = ventpeeler_word(record + 4 * 2);
+    token.alias_length = ventpeeler_word(record + 4 * 3);
+    token.key = ventpeeler_word(record + 4 * 4);
+    token.a = ventpeeler_word(record + 4 * 5);
+    token.b = ventpeeler_word(record + 4 * 6);
+    token.level = ventpeeler_word(record + 4 * 7);
     return token;
 }
 

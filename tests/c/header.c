@@ -28,7 +28,7 @@ static void take_escaped_quotes_apart(void) {
     check(ventpeeler_number(answer) == VENTPEELER_OVERLONG && ventpeeler_detail(answer) == 5 * half + 7 &&
               ventpeeler_escaped(answer) == 0,
           "a long length", "taken apart wrongly");
-    check(VENTPEELER_VERSION == 2, "the version", "is another");
+    check(VENTPEELER_VERSION == 3, "the version", "is another");
 }
 
 /* Words of a record at an odd address, with every byte of a word set. */
@@ -39,9 +39,10 @@ static void read_records(void) {
     }
     struct ventpeeler_token first = ventpeeler_token_at(bytes + 1, 0), second = ventpeeler_token_at(bytes + 1, 1);
     check(first.kind == 0x68676665 && first.start == 0x6c6b6a69 && first.length == 0x706f6e6d &&
-              first.alias_length == 0x74737271 && first.key == 0x78777675 && first.a == 0x7c7b7a79 && first.b == 0x807f7e7d,
+              first.alias_length == 0x74737271 && first.key == 0x78777675 && first.a == 0x7c7b7a79 && first.b == 0x807f7e7d &&
+              first.level == 0x84838281,
           "first record", "read wrongly");
-    check(second.kind == 0x84838281 && second.b == 0x9c9b9a99, "second record", "read wrongly");
+    check(second.kind == 0x88878685 && second.b == 0xa09f9e9d && second.level == 0xa4a3a2a1, "second record", "read wrongly");
     check(ventpeeler_key_number(first) == 0x7c7b7a79807f7e7d, "key number", "put together wrongly");
 }
 

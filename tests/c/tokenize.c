@@ -3,7 +3,10 @@
 
 #define RECORD VENTPEELER_RECORD_BYTES
 
-typedef uint32_t record[7];
+/* Eight words; a level of 0 is left out. */
+#define WORDS (RECORD / 4)
+
+typedef uint32_t record[WORDS];
 
 /* A search, settings, and its tokens. */
 struct search {
@@ -30,7 +33,7 @@ static const struct search searches[] = {
     {"/*a", {0, 0, 0}, 1, {{12, 0, 3, 3, 0, 0, 0}}},
     {"t.from", {0, 0, 0}, 3, {{15, 0, 1, 1, 0, 0, 0}, {8, 1, 1, 1, 0, 0, 0}, {15, 2, 4, 4, 0, 0, 0}}},
     {"t.end", {0, 0, 0}, 3, {{15, 0, 1, 1, 0, 0, 0}, {8, 1, 1, 1, 0, 0, 0}, {10, 2, 3, 3, 0, 0, 0}}},
-    {"(::", {0, 0, 0}, 2, {{9, 0, 1, 1, 0, 0, 0}, {8, 1, 2, 2, 0, 0, 0}}},
+    {"(::", {0, 0, 0}, 2, {{9, 0, 1, 1, 0, 0, 0}, {8, 1, 2, 2, 0, 0, 0, 1}}},
     {"::", {0, 0, 0}, 1, {{0, 0, 2, 2, 0, 0, 0}}},
     {"a=?", {0, 0, 0}, 2, {{15, 0, 1, 1, 0, 0, 0}, {8, 1, 2, 2, 0, 0, 0}}},
     {"$1a", {0, 0, 0}, 2, {{14, 0, 2, 2, 4, 0, 1}, {15, 2, 1, 1, 0, 0, 0}}},
@@ -71,7 +74,7 @@ static const struct search searches[] = {
      {{4, 0, 6, 6, 0, 0, 0}, {1, 6, 1, 1, 0, 0, 0}, {15, 7, 1, 1, 0, 0, 0}, {1, 8, 1, 1, 0, 0, 0}, {4, 9, 3, 3, 0, 0, 0}}},
     /* the brackets in the three dialects */
     {"[a]", {0, 0, 0}, 3, {{8, 0, 1, 1, 0, 0, 0}, {15, 1, 1, 1, 0, 0, 0}, {8, 2, 1, 1, 0, 0, 0}}},
-    {"[a]", {1, 0, 0}, 3, {{9, 0, 1, 1, 0, 0, 0}, {15, 1, 1, 1, 0, 0, 0}, {10, 2, 1, 1, 0, 0, 0}}},
+    {"[a]", {1, 0, 0}, 3, {{9, 0, 1, 1, 0, 0, 0}, {15, 1, 1, 1, 0, 0, 0, 1}, {10, 2, 1, 1, 0, 0, 0, 1}}},
     {"[a]", {2, 0, 0}, 1, {{2, 0, 3, 3, 0, 0, 0}}},
     /* a join under both settings */
     {"JOIN", {0, 0, 0}, 1, {{6, 0, 4, 4, 0, 0, 0}}},
@@ -79,6 +82,26 @@ static const struct search searches[] = {
     /* an alias that is shorter than its value */
     {"SELECT  DISTINCT", {0, 0, 0}, 1, {{4, 0, 16, 6, 0, 0, 0}}},
     {"select distinct", {0, 0, 0}, 1, {{4, 0, 15, 15, 0, 0, 0}}},
+    /* levels: a paren in another, CASE and END, a CloseParen too many */
+    {"((a))b",
+     {0, 0, 0},
+     6,
+     {{9, 0, 1, 1, 0, 0, 0, 0},
+      {9, 1, 1, 1, 0, 0, 0, 1},
+      {15, 2, 1, 1, 0, 0, 0, 2},
+      {10, 3, 1, 1, 0, 0, 0, 2},
+      {10, 4, 1, 1, 0, 0, 0, 1},
+      {15, 5, 1, 1, 0, 0, 0, 0}}},
+    {"CASE a END)(",
+     {0, 0, 0},
+     7,
+     {{9, 0, 4, 4, 0, 0, 0, 0},
+      {1, 4, 1, 1, 0, 0, 0, 1},
+      {15, 5, 1, 1, 0, 0, 0, 1},
+      {1, 6, 1, 1, 0, 0, 0, 1},
+      {10, 7, 3, 3, 0, 0, 0, 1},
+      {10, 10, 1, 1, 0, 0, 0, 0},
+      {9, 11, 1, 1, 0, 0, 0, 0}}},
     /* keys by name, without and with escapes, as text in the statement */
     {" {a b}", {0, 0, 0}, 2, {{1, 0, 1, 1, 0, 0, 0}, {14, 1, 5, 5, 1, 2, 3}}},
     {"@''", {0, 0, 0}, 1, {{14, 0, 3, 3, 1, 2, 0}}},
@@ -100,9 +123,9 @@ static uint64_t tokenize(struct lent statement, struct settings settings, struct
 }
 
 static void put_words(uint8_t *bytes, const record *tokens, size_t count) {
-    for (size_t i = 0; i < count * 7; i++) {
+    for (size_t i = 0; i < count * WORDS; i++) {
         for (int k = 0; k < 4; k++) {
-            *bytes++ = (uint8_t)(tokens[i / 7][i % 7] >> 8 * k);
+            *bytes++ = (uint8_t)(tokens[i / WORDS][i % WORDS] >> 8 * k);
         }
     }
 }
@@ -263,7 +286,7 @@ static void read_most_tokens(void) {
         for (uint32_t i = 0; i < 65536; i++) {
             struct ventpeeler_token token = ventpeeler_token_at(records.bytes, i);
             all = all && token.kind == VENTPEELER_OPEN_PAREN && token.start == i && token.length == 1 &&
-                  token.alias_length == 1 && token.key == 0 && token.a == 0 && token.b == 0;
+                  token.alias_length == 1 && token.key == 0 && token.a == 0 && token.b == 0 && token.level == i;
         }
         check(all, "65,536 times (", "a record is wrong, or a byte beside the table was written");
         give_back(records);
