@@ -33,7 +33,7 @@ extern "C" {
     ) -> u64;
 }
 
-pub const RECORD: usize = 28;
+pub const RECORD: usize = 32;
 pub const MOST: usize = 65536;
 
 pub const DONE: u64 = 0;
@@ -48,6 +48,8 @@ pub const WHITESPACE: u32 = 1;
 pub const STRING: u32 = 2;
 pub const TOP_LEVEL: u32 = 4;
 pub const NEWLINE: u32 = 6;
+pub const OPEN_PAREN: u32 = 9;
+pub const CLOSE_PAREN: u32 = 10;
 pub const LINE_COMMENT: u32 = 11;
 pub const PLACEHOLDER: u32 = 14;
 

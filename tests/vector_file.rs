@@ -1,5 +1,5 @@
 // Reads the files of tests/vectors, whose first lines say what the others mean; tools/vector_file.py writes them.
-use crate::calls::Settings;
+use crate::calls::{Settings, CLOSE_PAREN, OPEN_PAREN};
 
 #[derive(Clone, Default)]
 pub struct Inputs {
@@ -87,11 +87,16 @@ impl Inputs {
 }
 
 impl Check {
-    // `n N`: so many more like the last record, each starting where the one before it ends.
+    // `n N`: so many more like the last record, each starting where the one before it ends, and at the level past it.
     fn go_on(&mut self, times: u64) {
         for _ in 0..times {
             let mut record = self.records.last().unwrap().clone();
             record[1] += record[2];
+            record[7] = match record[0] as u32 {
+                OPEN_PAREN => record[7] + 1,
+                CLOSE_PAREN => record[7].saturating_sub(1),
+                _ => record[7],
+            };
             self.records.push(record);
         }
     }

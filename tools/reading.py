@@ -1171,7 +1171,7 @@ def byte_length(text):
 
 
 def records(tokens):
-    """The seven words of each token: kind, start, length, alias length, key
+    """The first seven words of each token's record: kind, start, length, alias length, key
     kind, key a, key b; places and lengths in bytes."""
     listed = []
     start = 0

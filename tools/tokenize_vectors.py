@@ -35,6 +35,7 @@ from reading import RESERVED_NEWLINE as NEWLINE  # noqa: E402
 from reading import RESERVED_NEWLINE_AFTER as NEWLINE_AFTER  # noqa: E402
 from reading import RESERVED_TOP_LEVEL as TOP_LEVEL  # noqa: E402
 from reading import RESERVED_TOP_LEVEL_NO_INDENT as NO_INDENT  # noqa: E402
+from levels import with_levels  # noqa: E402
 from vector_file import MANY, Searches  # noqa: E402
 
 DIALECTS = (0, 1, 2)
@@ -51,7 +52,7 @@ class Tokenized(Searches):
         number, detail, escaped, records = reading.answer(statement, *options)
         self.check("=", number, detail)
         self.escaped(escaped)
-        self.records(records)
+        self.records(with_levels(records))
 
 
 # --------------------------------------------------------------------------
@@ -149,15 +150,15 @@ WORKED_KEYS = (
     ("?", 0, 0, (0, 0, 0)),
 )
 
-# The listing of document 01, as printed there.
+# The listing of document 01, as printed there, with document 02's eighth field.
 LISTING = """\
-15 0 1 1 0 0 0
-8 1 2 2 0 0 0
-15 3 1 1 0 0 0
-1 4 1 1 0 0 0
-4 5 8 8 0 0 0
-1 13 1 1 0 0 0
-14 14 2 2 4 0 2
+15 0 1 1 0 0 0 0
+8 1 2 2 0 0 0 0
+15 3 1 1 0 0 0 0
+1 4 1 1 0 0 0 0
+4 5 8 8 0 0 0 0
+1 13 1 1 0 0 0 0
+14 14 2 2 4 0 2 0
 """
 
 
@@ -183,8 +184,8 @@ def worked(vectors):
         got = reading.tokenize(text.encode("utf-8"), dialect, 0, named)[0][4:]
         if got != expected:
             sys.exit(f"key of {text!r}: the reading has {got}, not {expected}")
-    listing = reading.tokenize(b"a=:b ORDER BY $2", 0, 0, 0)
-    if "".join("%d %d %d %d %d %d %d\n" % record for record in listing) != LISTING:
+    listing = with_levels(reading.tokenize(b"a=:b ORDER BY $2", 0, 0, 0))
+    if "".join("%d %d %d %d %d %d %d %d\n" % record for record in listing) != LISTING:
         sys.exit("the listing of document 01 is not met")
     for text, *_ in WORKED:
         vectors.every_setting(text)
@@ -707,6 +708,47 @@ def escaped_quotes(vectors):
 
 
 # --------------------------------------------------------------------------
+# Levels
+
+# The level of each token, gaps among them, worked out by hand from document
+# 02's request [3]. Dialect, text, levels.
+LEVELS = (
+    (0, "a(b)c", [0, 0, 1, 1, 0]),
+    (0, "((a))", [0, 1, 2, 2, 1]),
+    (0, ")a(b", [0, 0, 0, 1]),
+    (0, "(a))b(", [0, 1, 1, 0, 0, 0]),
+    (0, "(CASE (a) END)) b", [0, 1, 2, 2, 3, 3, 2, 2, 1, 0, 0, 0]),
+    (0, "case when a then b end c", [0, 1, 1, 1, 1, 1, 1, 1, 1, 1, 1, 0, 0]),
+    (0, "END CASE x", [0, 0, 0]),
+    (0, "[a]", [0, 0, 0]),
+    (1, "[a]", [0, 1, 1]),
+    (2, "[a]", [0]),
+    (1, "([)]", [0, 1, 2, 1]),
+    (0, "t.end(a", [0, 0, 0, 0, 1]),
+    (0, "--(\n(", [0, 0, 0]),
+    (0, "'(' (", [0, 0, 0]),
+    (0, "", []),
+)
+
+
+def levels_of(vectors):
+    vectors.group("levels, worked out by hand: parens, CASE and END, brackets in the dialects, a CloseParen too many")
+    for dialect, text, expected in LEVELS:
+        records = reading.tokenize(text.encode("utf-8"), dialect, 0, 0)
+        got = [record[-1] for record in with_levels(records)]
+        if got != expected:
+            sys.exit(f"levels of {text!r}: {got}, not {expected}")
+        vectors.every_dialect(text)
+    vectors.group("levels, as deep as can be, and closed again")
+    vectors.case(b"(", repeat=65536)
+    vectors.case(b")", repeat=65536)
+    vectors.case("(" * 300 + ")" * 302 + "(a")
+    vectors.case("()" * 200)
+    vectors.case("CASE " * 40 + "END " * 41 + "x")
+    vectors.case("[" * 20 + "]" * 21 + "(", 1)
+
+
+# --------------------------------------------------------------------------
 # Refusals
 
 
@@ -880,6 +922,7 @@ GROUPS_OF_CASES = (
     if_exists_and_case,
     strings,
     escaped_quotes,
+    levels_of,
     placeholders,
     numbers,
     comments,

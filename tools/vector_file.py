@@ -25,7 +25,7 @@ LINES = {
     "w": ("w N B HEX", "the same, with N times the byte B (decimal) behind it"),
     "o": (
         "o D J N R",
-        "dialect, joins, named, and how much is lent: records of 28 bytes where records are written, else bytes",
+        "dialect, joins, named, and how much is lent: records where records are written, else bytes",
     ),
     "=": ("= N D", "a check: number and detail of the call on the inputs that stand"),
     "l": (
@@ -34,8 +34,11 @@ LINES = {
         " the statement (S 0) or of the sheet (S 1) that starts at byte B",
     ),
     "e": ("e N", "the same: in the tokens handed out N quotes are escaped; none where no such line stands"),
-    "r": ("r K S L A K A B", "that call has written this record, the next one from the first on"),
-    "n": ("n N", "the same: N more like the last record, each starting where the one before it ends"),
+    "r": ("r K S L A K A B N", "that call has written this record, the next one from the first on"),
+    "n": (
+        "n N",
+        "the same: N more like the last record, each starting where the one before it ends, and at the level past it",
+    ),
     "t": ("t TEXT", "that call has written this text, or handed it back"),
     "g": ("g N B", "the same: N times the byte B"),
 }
@@ -98,10 +101,17 @@ def sheet_line(sheet):
     return f"w {len(sheet) - len(head)} {sheet[-1]} {head.hex()}"
 
 
+def level_past(record):
+    """The level behind a record's token: 9 is OpenParen, 10 CloseParen"""
+    kind, level = record[0], record[-1]
+    return level + 1 if kind == 9 else max(level - 1, 0) if kind == 10 else level
+
+
 def goes_on(before, record):
-    """Is a record like the one before it, but for its start?"""
-    kind, start, length, *others = record
-    return (kind, start, length, others) == (before[0], before[1] + before[2], before[2], list(before[3:]))
+    """Is a record like the one before it, but for its start and its level?"""
+    kind, start, length, *others, level = record
+    expected = (before[0], before[1] + before[2], before[2], list(before[3:-1]), level_past(before))
+    return (kind, start, length, others, level) == expected
 
 
 def runs(records):

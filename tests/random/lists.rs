@@ -20,6 +20,7 @@ pub struct Token {
     pub key: Key,
     // the key's words as they stand in the record
     pub key_words: [u32; 3],
+    pub level: u32,
 }
 
 impl Token {
@@ -75,6 +76,7 @@ fn token(text: &[u8], record: &[u8]) -> Option<Token> {
         alias: word(3) as usize,
         key,
         key_words: [word(4), word(5), word(6)],
+        level: word(7),
     })
 }
 

@@ -115,6 +115,25 @@ fn gaps_are_white_space(case: &Case) -> Verdict {
     })
 }
 
+// What the kinds before a token sum up to, parens opened less parens closed, less the lowest such sum so far, if that is below 0.
+fn levels_by_sums(case: &Case) -> Verdict {
+    of_tokens(case, |_, tokens| {
+        let (mut sum, mut lowest) = (0i64, 0i64);
+        tokens.iter().all(|token| {
+            let level = sum - lowest;
+            sum += (token.kind == OPEN_PAREN) as i64 - (token.kind == CLOSE_PAREN) as i64;
+            lowest = lowest.min(sum);
+            token.level as i64 == level
+        })
+    })
+}
+
+fn wrong_levels_closed_before(case: &Case) -> Verdict {
+    of_tokens(case, |_, tokens| {
+        tokens.windows(2).all(|pair| pair[1].kind != CLOSE_PAREN || pair[0].kind != OPEN_PAREN || pair[1].level == pair[0].level)
+    })
+}
+
 // The escaped quotes that tokenize tells of an accepted text; a table with room for all tokens.
 fn escaped_told(text: &[u8], settings: Settings) -> Option<u64> {
     let mut table = vec![0; text.len() * RECORD];
@@ -307,6 +326,7 @@ fn main() {
         right("kinds are 0 to 15; only placeholders have keys", kinds_are_known),
         right("aliases are CREATE or SELECT of a phrase so typed, else the value", aliases),
         right("gaps are White_Space, all of a run, and nothing else starts with any", gaps_are_white_space),
+        right("levels are the parens opened and not yet closed", levels_by_sums),
         right("escaped quotes are those that the tokens' values have", escaped_by_value),
         right("no lone CR: the tight text has as many escaped quotes", tight_has_the_escapes),
         right("a table: exactly full, one byte short, odd bytes, the rest kept", table_is_told),
@@ -324,6 +344,7 @@ fn main() {
         wrong("WRONG: different searches have different tight texts", wrong_never_equal),
         wrong("WRONG: no quotes are escaped in placeholders", wrong_no_placeholders),
         wrong("WRONG: each backslash in a string escapes a quote, and nothing else does", wrong_backslashes_alone),
+        wrong("WRONG: a CloseParen has the level of its OpenParen", wrong_levels_closed_before),
         wrong("WRONG: there is a token for every byte", wrong_one_token_a_byte),
     ];
     let mut chance = Chance::new(seed);
