@@ -1,13 +1,13 @@
 /*
- * A plain scanner to hold beside ours: it writes a record of seven words for each token, and counts them first only where
+ * A plain scanner to hold beside ours: it writes a record of eight words for each token, and counts them first only where
  * there may be too few records. It knows gaps, comments, strings, numbers, words (the commonest reserved ones by a search in a sorted list), placeholders and
  * operators, all by bytes: no UTF-8, no phrases, no earlier tokens, one dialect.
  */
-#include <stddef.h>
-#include <stdint.h>
+#include "ventpeeler.h"
+
 #include <string.h>
 
-#define RECORD 28
+#define RECORD VENTPEELER_RECORD_BYTES
 
 enum { OTHER, BLANK, LETTER, DIGIT, MARK };
 
@@ -147,6 +147,10 @@ static size_t token(const uint8_t *text, const uint8_t *end, uint32_t *kind) {
     }
 }
 
+static uint32_t level_past(uint32_t level, uint32_t kind) {
+    return kind == 9 ? level + 1 : kind == 10 && level > 0 ? level - 1 : level;
+}
+
 /* The number of tokens; their records are written where the table holds them all. */
 static size_t count_tokens(const uint8_t *text, const uint8_t *end) {
     size_t count = 0;
@@ -160,7 +164,7 @@ static size_t count_tokens(const uint8_t *text, const uint8_t *end) {
 size_t plain_scan(const uint8_t *text, size_t length, uint8_t *records, size_t room) {
     const uint8_t *end = text + length;
     size_t count = 0;
-    uint32_t kind;
+    uint32_t kind, level = 0;
     if (classes[' '] != BLANK) {
         make_classes();
     }
@@ -169,8 +173,9 @@ size_t plain_scan(const uint8_t *text, size_t length, uint8_t *records, size_t r
     }
     for (const uint8_t *at = text; at < end; records += RECORD, count++) {
         size_t taken = token(at, end, &kind);
-        uint32_t words[7] = {kind, (uint32_t)(at - text), (uint32_t)taken, (uint32_t)taken, 0, 0, 0};
+        uint32_t words[] = {kind, (uint32_t)(at - text), (uint32_t)taken, (uint32_t)taken, 0, 0, 0, level};
         memcpy(records, words, RECORD);
+        level = level_past(level, kind);
         at += taken;
     }
     return count;
