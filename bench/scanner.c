@@ -1,7 +1,7 @@
 /*
  * A plain scanner to hold beside ours: it writes a record of eight words for each token, and counts them first only where
- * there may be too few records. It knows gaps, comments, strings, numbers, words (the commonest reserved ones by a search in a sorted list), placeholders and
- * operators, all by bytes: no UTF-8, no phrases, no earlier tokens, one dialect.
+ * there may be too few records. It knows gaps, comments, strings, numbers, words (the commonest reserved ones by a search
+ * in a sorted list), placeholders and operators, all by bytes: no UTF-8, no phrases, no earlier tokens, one dialect.
  */
 #include "ventpeeler.h"
 

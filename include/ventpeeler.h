@@ -28,7 +28,8 @@
  *
  * A refusal (1 to 6) writes nothing. On success the first bytes lent are written and what lies past them is kept: past the
  * last record, or past the text, and also the odd bytes of a table that is no multiple of VENTPEELER_RECORD_BYTES. What a
- * buffer lent for writing held before makes no difference. No text is ended by a zero byte, and a zero byte is a character like others.
+ * buffer lent for writing held before makes no difference. No text is ended by a zero byte, and a zero byte is a character
+ * like others.
  *
  * To learn a size first, lend no bytes: the answer is then 4 or 6 with the size, or 0 where nothing is to be written.
  * Sizes that always suffice: VENTPEELER_RECORD_BYTES * statement_len for the records, statement_len for the tight text. A
@@ -155,10 +156,11 @@ struct ventpeeler_token {
 };
 
 /*
- * Writes a record for each token. A table holds records_len / VENTPEELER_RECORD_BYTES records. The answer tells besides how many quotes are escaped in
- * the tokens written, at most 32,768 (ventpeeler_escaped): in Strings a doubled quote, as 'a''b' and [a]]b], and in single and
- * double quotes also one behind a backslash, as 'a\'b'; in placeholders of the form @'a' one behind a backslash, and in backticks
- * and brackets a doubled one. x'' and X'' know no escapes. What became no token counts nothing.
+ * Writes a record for each token. A table holds records_len / VENTPEELER_RECORD_BYTES records. The answer tells besides how
+ * many quotes are escaped in the tokens written, at most 32,768 (ventpeeler_escaped): in Strings a doubled quote, as 'a''b'
+ * and [a]]b], and in single and double quotes also one behind a backslash, as 'a\'b'; in placeholders of the form @'a' one
+ * behind a backslash, and in backticks and brackets a doubled one. x'' and X'' know no escapes. What became no token counts
+ * nothing.
  */
 uint64_t ventpeeler_tokenize(const uint8_t *statement, size_t statement_len, uint64_t dialect, uint64_t joins, uint64_t named,
                              uint8_t *records, size_t records_len);
