@@ -61,6 +61,8 @@
  *         of tokens must take ventpeeler_detail(answer), which are the low 32 bits then. All else is as it was
  *     3   a record has an eighth word, the level, and so VENTPEELER_RECORD_BYTES grew. Tables that were large enough for all
  *         tokens may be too small now; records kept from before don't fit ventpeeler_token_at
+ *     4   tighten keeps a gap that returns as a CR. Tight texts of searches with a CR without LF are others than before, and are
+ *         keys as good as all others now; keys kept of such searches are to be made anew. All other tight texts are as they were
  */
 #ifndef VENTPEELER_H
 #define VENTPEELER_H
@@ -72,7 +74,7 @@
 extern "C" {
 #endif
 
-#define VENTPEELER_VERSION 3
+#define VENTPEELER_VERSION 4
 
 #define VENTPEELER_STATEMENT_MOST 65536 /* bytes of a statement */
 #define VENTPEELER_SHEET_LEAST 3        /* bytes of a sheet */
@@ -110,7 +112,7 @@ enum ventpeeler_kind {
     VENTPEELER_OPERATOR = 8,                     /* up to five operator characters, or any other character */
     VENTPEELER_OPEN_PAREN = 9,                   /* ( or CASE, and [ in PostgreSql */
     VENTPEELER_CLOSE_PAREN = 10,                 /* ) or END, and ] in PostgreSql */
-    VENTPEELER_LINE_COMMENT = 11,                /* from # or -- up to LF or CR LF; none where a lone CR comes first */
+    VENTPEELER_LINE_COMMENT = 11,                /* from # or -- up to LF or CR LF; none where a CR without LF comes first */
     VENTPEELER_BLOCK_COMMENT = 12,               /* from the opening mark through the closing one, or to the end */
     VENTPEELER_NUMBER = 13,
     VENTPEELER_PLACEHOLDER = 14, /* ? ?1 $1 :a @a $a {a} @'a' and the like */
@@ -168,13 +170,15 @@ uint64_t ventpeeler_tokenize(const uint8_t *statement, size_t statement_len, uin
 /*
  * THE TIGHT TEXT
  *
- * Each token's value in order; each gap becomes one LF after a line comment, else one space; a gap before the first or after
- * the last token goes. No other byte changes. `a  --x` CR LF LF ` b ` becomes `a --x` LF `b`, and blank text becomes empty.
+ * Each token's value in order. A gap becomes one LF after a line comment; else one CR where it returns, that is, where its
+ * first CR or LF is a CR without LF directly behind it; else one space. A gap before the first token goes, and so does one
+ * after the last, unless it became a CR. No other byte changes. `a  --x` CR LF LF ` b ` becomes `a --x` LF `b`; ` a` CR CR
+ * `b` CR becomes `a` CR `b` CR; blank text becomes empty.
  *
- * It is a key for the search: under the same settings two tight texts are equal exactly when the searches have the same
- * tokens, gaps aside, and have their inner gaps between the same tokens, however wide. The tight text may be kept in the
- * search's place: it reads as the same tokens. Both hold for searches without a lone CR (one that no LF follows directly);
- * with one the text is made by the same rule, but is not to be trusted as a key.
+ * It is a key for the search, and can be trusted for every accepted search: under the same settings two tight texts are
+ * equal exactly when the searches have the same tokens, gaps aside, and their gaps agree in place, however wide, and in
+ * whether they return. A gap before the first token does not count; one after the last counts where it returns. The tight
+ * text may be kept in the search's place: it reads as the same tokens, and tightening it again gives it back.
  */
 uint64_t ventpeeler_tighten(const uint8_t *statement, size_t statement_len, uint64_t dialect, uint64_t joins, uint64_t named,
                             uint8_t *output, size_t output_len);

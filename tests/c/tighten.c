@@ -1,4 +1,5 @@
-/* ventpeeler_tighten through the header. All expected texts are worked out by hand from document 01's sentence on them. */
+/* ventpeeler_tighten through the header. All expected texts are worked out by hand from document 01's sentence on them and
+ * document 02's rule [5] for gaps. */
 #include "lent.h"
 
 struct search {
@@ -35,8 +36,14 @@ static const struct search searches[] = {
     {"[  a  ]", {1, 0, 0}, "[ a ]"},
     {"JOIN  a", {0, 1, 0}, "JOIN a"},
     {"$1a  b", {0, 0, 1}, "$1a b"},
-    {"a\rb", {0, 0, 0}, "a b"},   /* a lone CR is a gap like others */
-    {"#a\rb", {0, 0, 0}, "#a b"}, /* and there is no line comment before it */
+    {"a\rb", {0, 0, 0}, "a\rb"}, /* the first CR or LF is a CR without LF */
+    {"a \r\n b", {0, 0, 0}, "a b"},
+    {"a\n\rb", {0, 0, 0}, "a b"},
+    {"a \r ", {0, 0, 0}, "a\r"}, /* also at the end */
+    {"\ra", {0, 0, 0}, "a"},     /* but not before the first token */
+    {"\r", {0, 0, 0}, ""},
+    {"#a\rb\r\n", {0, 0, 0}, "#a\rb"}, /* no line comment before such a CR */
+    {"--a\n\rb", {0, 0, 0}, "--a\nb"}, /* and behind one it makes no difference */
 };
 
 static uint64_t tighten(struct lent statement, struct settings settings, struct lent output) {

@@ -6,7 +6,7 @@ use native.Mathlib.Numerals.{add-one}
 use native.Mathlib.Omega.{arith}
 use mathlib.Core.Path.{_≡_, refl, sym, ap, _∙_}
 use mathlib.Core.List.{List, [], _∷_}
-use mathlib.Core.Bool.{Bool, true, false, cond, not, _&&_}
+use mathlib.Core.Bool.{Bool, true, false, cond}
 use lib.ListN.{take, drop}
 use lib.Seq.{drop-drop, getD-drop}
 use borrow.Author.Tests.{eqb-true, le-leb}
@@ -30,7 +30,8 @@ use Rattle.tokenizer.specs.Memory.{start, remembered}
 use Rattle.tokenizer.specs.NextToken.{getNextToken, nextPiece}
 use Rattle.tokenizer.specs.Tokens.{givenOut, placed, tokenAt, tokensFrom, tokens}
 use Rattle.tokenizer.specs.Values.{value}
-use Rattle.tight.specs.Agree.{Meaning, meaning, Compared, compared, comparedAll, reading, isGap, onlyGaps}
+use Rattle.tight.specs.Returning.{returns}
+use Rattle.tight.specs.Agree.{Meaning, meaning, Compared, compared, comparedAll, reading, isGap}
 use Rattle.tight.proofs.Whitespace.{isBlank}
 use Rattle.tight.proofs.PieceKinds.{NoGap, next-no-gap}
 use Rattle.tight.proofs.SimPieces.{no-blank}
@@ -140,17 +141,30 @@ read-gap settings memory b x e =
 
 -- ---- the tokens, each with what is told of the gap behind it
 
-pub data Item : Type 0 where
-  item : Compared → Bool → Item
+-- none, or none that counts; a gap that does not return; one that does
+pub data Mark : Type 0 where
+  none plain returning : Mark
 
--- a gap comes next, and a token behind it
-abbrev pub gapNext : List Compared → Bool
-gapNext [] = false
-gapNext (c ∷ cs) = isGap c && not (onlyGaps cs)
+pub data Item : Type 0 where
+  item : Compared → Mark → Item
+
+-- behind a line comment no gap is taken for one that returns
+abbrev pub sortAfter : TokenKind → List ℕ → Bool
+sortAfter kind gap = cond (isKind kind K.LineComment) false (returns gap)
+
+-- past a gap of this sort; of gaps side by side the last one tells, as in `tightFrom`
+abbrev pub markPast : TokenKind → Bool → List Compared → Mark
+markPast kind sort [] = cond sort returning none
+markPast kind sort (c ∷ cs) = cond (isGap c) (markPast kind (sortAfter kind (c .value)) cs) (cond sort returning plain)
+
+-- behind a token of this kind
+abbrev pub gapNext : TokenKind → List Compared → Mark
+gapNext kind [] = none
+gapNext kind (c ∷ cs) = cond (isGap c) (markPast kind (sortAfter kind (c .value)) cs) none
 
 unfoldable pub items : List Compared → List Item
 items [] = []
-items (c ∷ cs) = cond (isGap c) (items cs) (item c (gapNext cs) ∷ items cs)
+items (c ∷ cs) = cond (isGap c) (items cs) (item c (gapNext (c .kind) cs) ∷ items cs)
 
 pub is-gap : (n : ℕ) (y : List ℕ) → isGap (gapCompared n y) ≡ true
 unfolding isGap

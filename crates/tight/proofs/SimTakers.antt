@@ -19,7 +19,7 @@ use Rattle.recognisers.specs.Taking as T
 use Rattle.recognisers.proofs.Spelling.{more-zero, more-more}
 use Rattle.unicode.proofs.ClassesApart.{white-no-word, zero-no-word}
 use Rattle.tight.proofs.Whitespace.{isBlank, none-blank, blankByte, blank-whole, not-byte, range-quiet}
-use Rattle.tight.proofs.Sim.{Conts, last, more, blank, Separator, space, newline, Ends, at-end, at-separator, Sim, nil, keep, same, swap, lose, Blankish, ended, starts, blankish, separator-blank, separator-ish, ends-ish, class-sim, blank-sim}
+use Rattle.tight.proofs.Sim.{Conts, last, more, blank, Separator, space, newline, return, Ends, at-end, at-separator, Sim, nil, keep, same, swap, lose, Blankish, ended, starts, blankish, separator-blank, separator-ish, ends-ish, class-sim, blank-sim}
 
 -- both fail, or both take something; and where the first takes n bytes, so does the second
 pub data Same : ℕ → Taken → Taken → Type 0 where
@@ -233,6 +233,7 @@ module _ (then : Taker) where
     unfolding continuations
     separator-alone space = refl
     separator-alone newline = refl
+    separator-alone return = refl
 
     eat-separator : {c : ℕ} (x : List ℕ) → Separator c → eat 0 (c ∷ x) ≡ T.more 1 (eat 0 x)
     unfolding eat

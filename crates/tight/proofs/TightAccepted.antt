@@ -33,10 +33,10 @@ use Rattle.tokenizer.proofs.TokenBoundaries.{piece-bounded}
 use Rattle.tight.specs.TightText.{tight}
 use Rattle.tight.proofs.TightShort.{tight-short}
 use Rattle.tight.proofs.Whitespace.{isBlank}
-use Rattle.tight.proofs.Sim.{Separator, space, newline}
-use Rattle.tight.proofs.ReadingItems.{past, readFrom, reading-is, read-none, afterGap, items}
+use Rattle.tight.proofs.Sim.{Separator, space, newline, return}
+use Rattle.tight.proofs.ReadingItems.{past, readFrom, reading-is, read-none, afterGap, Mark, none, plain, returning, items}
 use Rattle.tight.proofs.GapRuns.{each-rest, gap-of}
-use Rattle.tight.proofs.TightReading.{found, inner, items-gap, joint, render, render-one, separates}
+use Rattle.tight.proofs.TightReading.{found, mark, items-gap, joint, render, render-one, separates}
 use Rattle.tight.proofs.TightByItems.{tight-is}
 use Rattle.unicode.proofs.ReplacedEnds.{replaced, ascii-before}
 
@@ -45,10 +45,12 @@ use Rattle.unicode.proofs.ReplacedEnds.{replaced, ascii-before}
 separator-ascii : {s : ℕ} → Separator s → s < 0x80
 separator-ascii space = omega arith
 separator-ascii newline = omega arith
+separator-ascii return = omega arith
 
-joint-formed : (gap : Bool) (kind : TokenKind) (z : List ℕ) → wellFormed z ≡ true → wellFormed (joint gap kind z) ≡ true
-joint-formed true kind z w = let q = separates kind in rw (q .is) (ascii-before (q .s) z (separator-ascii (q .separator)) w)
-joint-formed false kind z w = w
+joint-formed : (m : Mark) (kind : TokenKind) (z : List ℕ) → wellFormed z ≡ true → wellFormed (joint m kind z) ≡ true
+joint-formed plain kind z w = let q = separates kind in rw (q .is) (ascii-before (q .s) z (separator-ascii (q .separator)) w)
+joint-formed none kind z w = w
+joint-formed returning kind z w = ascii-before 13 z (omega arith) w
 
 module _ (settings : Settings) where
   abbrev Formed : List ℕ → Type 0
@@ -66,7 +68,7 @@ module _ (settings : Settings) where
       let formed-y : wellFormed (drop (f .n) x) ≡ true = rw (f .long) at cut in
       rw (render-one settings memory b x (f .p) (f .n) h (f .is) (f .long))
       (replaced (b ∷ take (f .n) x) (drop (f .n) x) _ (rw (take-append-drop (f .n) x) w) formed-y
-      (joint-formed (inner (drop (f .n) x)) (givenOut (settings .joins) (f .p .kind)) _ (rest (f .n) (past memory (f .p) (b ∷ x)) formed-y)))
+      (joint-formed (mark (givenOut (settings .joins) (f .p .kind)) (drop (f .n) x)) (givenOut (settings .joins) (f .p .kind)) _ (rest (f .n) (past memory (f .p) (b ∷ x)) formed-y)))
     where
       rest : (n : ℕ) (m : Memory) → wellFormed (drop n x) ≡ true → wellFormed (render (items (readFrom settings m 0 (afterGap (drop n x))))) ≡ true
       rest n m v = all m (gap-of (drop n x) .ended) (run-cut isWhitespace 0 (drop n x) v)

@@ -13,30 +13,38 @@ use Rattle.tokenizer.specs.declared.Token.{Token}
 use Rattle.tokenizer.specs.Values.{value}
 use Rattle.calls.proofs.Storing.{both-put}
 use Rattle.tight.specs.declared.Gap.{Gap}
-use Rattle.tight.specs.declared.Gap.the-variants.{Nothing, LineFeed, Space}
+use Rattle.tight.specs.declared.Gap.the-variants.{Nothing, LineFeed, Space, Return}
+use Rattle.tight.specs.declared.Place.the-variants.{Behind}
 use Rattle.tight.specs.declared.Spacing.{Spacing}
-use Rattle.tight.specs.TightText.{isGap, gapAfter, gapBytes, tightFrom}
+use Rattle.tight.specs.TightText.{isGap, becomes, gapBytes, atEnd, tightFrom}
 use Rattle.tight.specs.Inner.Added.{added, addedLength, spacingPast}
 
 pub gap-short : (gap : Gap) → length (gapBytes gap) ≤ 1
 gap-short Nothing = omega arith
 gap-short LineFeed = omega arith
 gap-short Space = omega arith
+gap-short Return = omega arith
+
+pub last-short : (gap : Gap) → length (gapBytes (atEnd gap)) ≤ length (gapBytes gap)
+last-short Nothing = omega arith
+last-short LineFeed = omega arith
+last-short Space = omega arith
+last-short Return = omega arith
 
 -- ---- the text from a token on: its added, and the text past it
 
 module _ (s : List ℕ) (spacing : Spacing) (t : Token) where
   pub added-first : (ts : List Token)
       → tightFrom s (spacing .here) (spacing .lead) (t ∷ ts)
-      ≡ added s (spacing .lead) t ++ tightFrom s (spacingPast spacing t .here) (spacingPast spacing t .lead) ts
+      ≡ added s (spacing .lead) t ++ tightFrom s (spacingPast s spacing t .here) (spacingPast s spacing t .lead) ts
   unfolding tightFrom added spacingPast
   added-first ts = go (isGap t) refl
     where
       go : (b : Bool) → isGap t ≡ b
           → tightFrom s (spacing .here) (spacing .lead) (t ∷ ts)
-          ≡ added s (spacing .lead) t ++ tightFrom s (spacingPast spacing t .here) (spacingPast spacing t .lead) ts
+          ≡ added s (spacing .lead) t ++ tightFrom s (spacingPast s spacing t .here) (spacingPast s spacing t .lead) ts
       go true e = rw (tightFrom, e)
-      go false e = rw (tightFrom, e) (sym (append-assoc (gapBytes (spacing .lead)) (value s t) (tightFrom s (gapAfter (t .kind)) Nothing ts)))
+      go false e = rw (tightFrom, e) (sym (append-assoc (gapBytes (spacing .lead)) (value s t) (tightFrom s (Behind (t .kind)) Nothing ts)))
 
 module _ (s : List ℕ) (lead : Gap) (t : Token) where
   value-length : t .start + t .len ≤ length s → length (value s t) ≡ t .len
@@ -51,13 +59,13 @@ module _ (s : List ℕ) (lead : Gap) (t : Token) where
       go false e = rw (e, length-append, value-length h)
 
 -- the lead past a token is no longer than what is read of it
-pub past-reach : (spacing : Spacing) (t : Token) (n i j : ℕ) → n + length (gapBytes (spacing .lead)) ≤ i → i + t .len ≡ j → i < j
-    → n + addedLength (spacing .lead) t + length (gapBytes (spacingPast spacing t .lead)) ≤ j
+pub past-reach : (s : List ℕ) (spacing : Spacing) (t : Token) (n i j : ℕ) → n + length (gapBytes (spacing .lead)) ≤ i → i + t .len ≡ j → i < j
+    → n + addedLength (spacing .lead) t + length (gapBytes (spacingPast s spacing t .lead)) ≤ j
 unfolding addedLength spacingPast
-past-reach spacing t n i j h e k = go (isGap t) refl
+past-reach s spacing t n i j h e k = go (isGap t) refl
   where
-    go : (b : Bool) → isGap t ≡ b → n + addedLength (spacing .lead) t + length (gapBytes (spacingPast spacing t .lead)) ≤ j
-    go true f = rw f (omega (arith, gap-short (spacing .here)))
+    go : (b : Bool) → isGap t ≡ b → n + addedLength (spacing .lead) t + length (gapBytes (spacingPast s spacing t .lead)) ≤ j
+    go true f = rw f (omega (arith, gap-short (becomes (spacing .here) (value s t))))
     go false f = rw f (omega arith)
 
 -- ---- a gap and a value, put
@@ -69,6 +77,9 @@ module _ (gap : Gap) (output : List ℕ) (at : ℕ) (h : at + length (gapBytes g
   pub space-room : gap ≡ Space → at < length output
   space-room e = let k : at + length (gapBytes Space) ≤ length output = rw e at h in omega arith
 
+  pub return-room : gap ≡ Return → at < length output
+  return-room e = let k : at + length (gapBytes Return) ≤ length output = rw e at h in omega arith
+
 module _ (gap : Gap) (output : List ℕ) (at : ℕ) where
   pub nothing-put : gap ≡ Nothing → output ≡ sets output at (gapBytes gap)
   nothing-put e = rw e
@@ -78,6 +89,9 @@ module _ (gap : Gap) (output : List ℕ) (at : ℕ) where
 
   pub space-put : gap ≡ Space → set output at 32 ≡ sets output at (gapBytes gap)
   space-put e = rw e
+
+  pub return-put : gap ≡ Return → set output at 13 ≡ sets output at (gapBytes gap)
+  return-put e = rw e
 
 module _ (start len : ℕ) where
   back : start + len - start ≡ len
@@ -89,6 +103,20 @@ module _ (start len : ℕ) where
 
     pub value-put : (after : List ℕ) → after ≡ sets output at (take (start + len - start) (drop start s)) → after ≡ sets output at (take len (drop start s))
     value-put after e = e ∙ rw back
+
+-- ---- the spacing past a token
+
+module _ (s : List ℕ) (spacing : Spacing) (t : Token) (r : Bool) (e : r ≡ isGap t) where
+  pub past-gap : r ≡ true → (lead : Gap) → lead ≡ becomes (spacing .here) (take (t .start + t .len - t .start) (drop (t .start) s))
+      → _≡_ {A = Spacing} (record { here = spacing .here; lead = lead }) (spacingPast s spacing t)
+  unfolding spacingPast
+  past-gap f lead g = rw (← e, f, g, back (t .start) (t .len))
+
+  pub past-token : r ≡ false → _≡_ {A = Spacing} (record { here = Behind (t .kind); lead = Nothing }) (spacingPast s spacing t)
+  unfolding spacingPast
+  past-token f = rw (← e, f)
+
+-- ---- what a token adds, put
 
 module _ (s output : List ℕ) (at : ℕ) (lead : Gap) (t : Token) (r : Bool) (e : r ≡ isGap t) where
   pub none-added : r ≡ true → output ≡ sets output at (added s lead t)

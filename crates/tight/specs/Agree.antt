@@ -1,6 +1,6 @@
--- When two searches agree: the same tokens, with gaps in the same places.
+-- When two searches agree: the same tokens, with gaps of the same sorts in the same places.
 use Prim.Native.Nat.{ℕ, suc}
-use mathlib.Core.Bool.{Bool, true, cond, _&&_, _||_}
+use mathlib.Core.Bool.{Bool, true, cond, not, _&&_, _||_}
 use mathlib.Core.List.{List, [], _∷_}
 use mathlib.Core.Path.{_≡_}
 use lib.Dec.{eqb}
@@ -14,6 +14,7 @@ use Rattle.tokenizer.specs.declared.Token.{Token}
 use Rattle.tokenizer.specs.KeyText.{keyText}
 use Rattle.tokenizer.specs.Tokens.{tokens}
 use Rattle.tokenizer.specs.Values.{value}
+use Rattle.tight.specs.Returning.{returns}
 
 -- what a key means, wherever its text stands: none, one text with escapes undone, or one number of one indexed kind
 pub data Meaning : Type 0 where
@@ -59,14 +60,17 @@ unfoldable pub onlyGaps : List Compared → Bool
 onlyGaps [] = true
 onlyGaps (c ∷ cs) = isGap c && onlyGaps cs
 
--- The places of the gaps that aren't outer. A gap's place is the number of tokens before it, gaps not counted: n of them
--- stand before this list. It is outer where those are none or all of them.
-unfoldable pub innerGaps : ℕ → List Compared → List ℕ
-innerGaps n [] = []
-innerGaps n (c ∷ cs) =
-    cond (isGap c) (cond (eqb n 0 || onlyGaps cs) (innerGaps n cs) (n ∷ innerGaps n cs)) (innerGaps (suc n) cs)
+-- The gaps that count, each with its place and its sort, whether it returns. A gap's place is the number of tokens before it,
+-- gaps not counted: n of them stand before this list. A gap with none before it does not count, nor does one with none
+-- behind it, unless it returns.
+unfoldable pub gaps : ℕ → List Compared → List (ℕ × Bool)
+gaps n [] = []
+gaps n (c ∷ cs) =
+    cond (isGap c)
+    (cond (eqb n 0 || (onlyGaps cs && not (returns (c .value)))) (gaps n cs) ((n, returns (c .value)) ∷ gaps n cs))
+    (gaps (suc n) cs)
 
 -- one list of tokens: equally long and, at each index, the same in kind, value, alias length and key
 pub record Agree (settings : Settings) (s t : List ℕ) : Type 0 where
   pub same-tokens : withoutGaps (reading settings s) ≡ withoutGaps (reading settings t)
-  pub same-gaps : innerGaps 0 (reading settings s) ≡ innerGaps 0 (reading settings t)
+  pub same-gaps : gaps 0 (reading settings s) ≡ gaps 0 (reading settings t)

@@ -11,26 +11,42 @@ use Rattle.tokenizer.specs.declared.Token.{Token}
 use Rattle.tokenizer.specs.Tokens.{tokens}
 use Rattle.tokenizer.specs.Values.{value}
 use Rattle.tight.specs.declared.Gap.{Gap}
-use Rattle.tight.specs.declared.Gap.the-variants.{Nothing, LineFeed, Space}
+use Rattle.tight.specs.declared.Gap.the-variants.{Nothing, LineFeed, Space, Return}
+use Rattle.tight.specs.declared.Place.{Place}
+use Rattle.tight.specs.declared.Place.the-variants.{First, Behind}
+use Rattle.tight.specs.Returning.{returns}
 
 unfoldable pub isGap : Token → Bool
 isGap t = isKind (t .kind) K.Whitespace
 
--- what a gap becomes behind a token of this kind
-unfoldable pub gapAfter : TokenKind → Gap
-gapAfter kind = cond (isKind kind K.LineComment) LineFeed Space
+-- what a gap of these bytes becomes behind a token of this kind
+unfoldable pub gapAfter : TokenKind → List ℕ → Gap
+gapAfter kind gap = cond (isKind kind K.LineComment) LineFeed (cond (returns gap) Return Space)
+
+-- and what it becomes here
+abbrev pub becomes : Place → List ℕ → Gap
+becomes First gap = Nothing
+becomes (Behind kind) gap = gapAfter kind gap
+
+-- what is left of it where no token follows
+abbrev pub atEnd : Gap → Gap
+atEnd Nothing = Nothing
+atEnd LineFeed = Nothing
+atEnd Space = Nothing
+atEnd Return = Return
 
 abbrev pub gapBytes : Gap → List ℕ
 gapBytes Nothing = []
 gapBytes LineFeed = byte "\n" ∷ []
 gapBytes Space = byte " " ∷ []
+gapBytes Return = byte "\r" ∷ []
 
--- The tight text of the tokens that are left. `gap` is what a gap becomes here: nothing before the first token. `lead` is
--- what the gap just passed became, if there was one: it is written once a token follows, so that the last gap goes.
-unfoldable pub tightFrom : List ℕ → Gap → Gap → List Token → List ℕ
-tightFrom s gap lead [] = []
-tightFrom s gap lead (t ∷ ts) =
-    cond (isGap t) (tightFrom s gap gap ts) (gapBytes lead ++ (value s t ++ tightFrom s (gapAfter (t .kind)) Nothing ts))
+-- The tight text of the tokens that are left. `lead` is what the gap just passed became, if there was one: it stands before
+-- the next token, and at the end if it is a CR.
+unfoldable pub tightFrom : List ℕ → Place → Gap → List Token → List ℕ
+tightFrom s here lead [] = gapBytes (atEnd lead)
+tightFrom s here lead (t ∷ ts) =
+    cond (isGap t) (tightFrom s here (becomes here (value s t)) ts) (gapBytes lead ++ (value s t ++ tightFrom s (Behind (t .kind)) Nothing ts))
 
 unfoldable pub tight : Settings → List ℕ → List ℕ
-tight settings s = tightFrom s Nothing Nothing (tokens settings s)
+tight settings s = tightFrom s First Nothing (tokens settings s)

@@ -1,7 +1,10 @@
 // The tight text of a whole statement: its length, and the text itself.
 use crate::adding::added_length;
 use crate::adding::put_added;
+use crate::adding::put_gap;
 use crate::gaps::before_first;
+use crate::gaps::gap_at_end;
+use crate::gaps::gap_length;
 use crate::gaps::spacing_past;
 use calls::Settings;
 use tokenizer::Step;
@@ -24,11 +27,13 @@ pub fn tight_length(statement: &[u8], settings: Settings) -> usize
             Step::Token(token, next) => {
                 let lead = spacing.lead;
                 count += added_length(lead, token);
-                spacing = spacing_past(spacing, token);
+                spacing = spacing_past(statement, spacing, token);
                 cursor = next;
             }
             Step::Done => {
-                return count;
+                let lead = spacing.lead;
+                let last = gap_at_end(lead);
+                return count + gap_length(last);
             }
         }
     }
@@ -49,11 +54,14 @@ pub fn write_tight(statement: &[u8], settings: Settings, output: &mut [u8]) -> u
                 let lead = spacing.lead;
                 put_added(statement, lead, token, output, at);
                 at += added_length(lead, token);
-                spacing = spacing_past(spacing, token);
+                spacing = spacing_past(statement, spacing, token);
                 cursor = next;
             }
             Step::Done => {
-                return at;
+                let lead = spacing.lead;
+                let last = gap_at_end(lead);
+                put_gap(last, output, at);
+                return at + gap_length(last);
             }
         }
     }

@@ -7,8 +7,9 @@ use Rattle.tokenizer.specs.declared.Token.{Token}
 use Rattle.tokenizer.specs.Values.{value}
 use Rattle.tight.specs.declared.Gap.{Gap}
 use Rattle.tight.specs.declared.Gap.the-variants.{Nothing}
+use Rattle.tight.specs.declared.Place.the-variants.{First, Behind}
 use Rattle.tight.specs.declared.Spacing.{Spacing}
-use Rattle.tight.specs.TightText.{isGap, gapAfter, gapBytes}
+use Rattle.tight.specs.TightText.{isGap, becomes, gapBytes}
 
 -- a gap adds nothing of its own
 unfoldable pub added : List ℕ → Gap → Token → List ℕ
@@ -19,8 +20,10 @@ addedLength lead t = cond (isGap t) 0 (length (gapBytes lead) + t .len)
 
 -- before the first token
 abbrev pub outside : Spacing
-outside = record { here = Nothing; lead = Nothing }
+outside = record { here = First; lead = Nothing }
 
-unfoldable pub spacingPast : Spacing → Token → Spacing
-spacingPast spacing t =
-    cond (isGap t) (record { here = spacing .here; lead = spacing .here }) (record { here = gapAfter (t .kind); lead = Nothing })
+unfoldable pub spacingPast : List ℕ → Spacing → Token → Spacing
+spacingPast s spacing t =
+    cond (isGap t)
+    (record { here = spacing .here; lead = becomes (spacing .here) (value s t) })
+    (record { here = Behind (t .kind); lead = Nothing })

@@ -1,5 +1,5 @@
 use borrow.Author.Needs.{needs}
-use Rattle.tight.proofs.TightAdded.{line-room, space-room, nothing-put, line-put, space-put}
+use Rattle.tight.proofs.TightAdded.{line-room, space-room, return-room, nothing-put, line-put, space-put, return-put}
 use Rattle.tight.proofs.adding.put_gap.Statement.{statement}
 use Rattle.tight.proofs.adding.put_gap.Tie as tie
 
@@ -18,6 +18,12 @@ enum-told-3 c = search needs
 slice-write-output-2 : tie.Need-slice-write-output-2
 slice-write-output-2 c = search space-room
 
+enum-told-4 : tie.Need-enum-told-4
+enum-told-4 c = search needs
+
+slice-write-output-3 : tie.Need-slice-write-output-3
+slice-write-output-3 c = search return-room
+
 returns : tie.Need-returns
 returns c = search nothing-put
 
@@ -33,6 +39,12 @@ same-length-2 c = search needs
 returns-3 : tie.Need-returns-3
 returns-3 c = search space-put
 
+same-length-3 : tie.Need-same-length-3
+same-length-3 c = search needs
+
+returns-4 : tie.Need-returns-4
+returns-4 c = search return-put
+
 pub put-gap-spec : {M : Type 1} → statement M
 put-gap-spec =
     tie.close
@@ -42,8 +54,12 @@ put-gap-spec =
     slice-write-output
     enum-told-3
     slice-write-output-2
+    enum-told-4
+    slice-write-output-3
     returns
     same-length
     returns-2
     same-length-2
-    returns-3)
+    returns-3
+    same-length-3
+    returns-4)
