@@ -5,9 +5,10 @@ answer and write.
     python3 tools/tighten_vectors.py > tests/vectors/tighten.txt
 
 The tokens come from tools/reading.py, and the tight text from document 01's
-sentence on them (`tight`). The searches are those of tools/tokenize_vectors.py
-and the ones below. What document 01 says of a search by itself is written out here,
-and this program stops where it comes to another text (`worked`).
+sentence on them and document 02's rule [5] for gaps (`tight`). The searches are
+those of tools/tokenize_vectors.py and the ones below. What the documents say of a
+search by itself is written out here, and this program stops where it comes to
+another text (`worked`).
 """
 
 import sys
@@ -19,28 +20,37 @@ from vector_file import MANY, Searches  # noqa: E402
 
 ABOUT = """\
 Searches, settings, tighten's answers and the tight texts. They are made from the tokens of a reading of src/tokenizer.rs in
-Python (tools/reading.py) by document 01's sentence on tight text, independently of the port and never from its output. The
-searches are those of tokenize.txt, and more with gaps of every sort. What document 01 says of a search by itself was laid
-beside it by hand. Printed by tools/tighten_vectors.py.
+Python (tools/reading.py) by document 01's sentence on tight text and document 02's rule [5] for gaps, independently of the
+port and never from its output. The searches are those of tokenize.txt, and more with gaps of every sort. What the documents
+say of a search by itself was laid beside it by hand. Printed by tools/tighten_vectors.py.
 """
 
 
+def returns(statement, start, end):
+    """The first CR or LF in the gap is a CR without LF directly behind it."""
+    for i in range(start, end):
+        if statement[i : i + 1] in (b"\r", b"\n"):
+            return statement[i : i + 1] == b"\r" and statement[i + 1 : i + 2] != b"\n"
+    return False
+
+
 def tight(statement, records):
-    """Each token's value in order; a gap becomes one LF after a line comment,
-    else one space; outer gaps go."""
-    tokens = [(record[0], statement[record[1] : record[1] + record[2]]) for record in records]
-    while tokens and tokens[0][0] == reading.WHITESPACE:
-        tokens = tokens[1:]
-    while tokens and tokens[-1][0] == reading.WHITESPACE:
-        tokens = tokens[:-1]
+    """Each token's value in order. Gaps before the first token go. A gap becomes
+    one LF after a line comment; else one CR where it returns, also at the end;
+    else one space. At the end the other gaps go."""
     text = b""
     before = None
-    for kind, value in tokens:
-        if kind == reading.WHITESPACE:
+    for place, (kind, start, length, *_) in enumerate(records):
+        end = start + length
+        if kind != reading.WHITESPACE:
+            text += statement[start:end]
+            before = kind
+        elif before is None:
+            pass
+        elif before != reading.LINE_COMMENT and returns(statement, start, end):
+            text += b"\r"
+        elif place + 1 < len(records):
             text += b"\n" if before == reading.LINE_COMMENT else b" "
-        else:
-            text += value
-        before = kind
     return text
 
 
@@ -63,7 +73,7 @@ class Tightened(Searches):
 
 
 # --------------------------------------------------------------------------
-# Texts worked out by hand from document 01: search, dialect, named, tight text
+# Texts worked out by hand from the documents: search, dialect, named, tight text
 
 WORKED = (
     ("a  --x\r\n\n b ", 0, 0, "a --x\nb"),
@@ -105,18 +115,44 @@ WORKED = (
     ("[a  b]  c", 2, 0, "[a  b] c"),
     # a phrase is one token with the white space between its words
     ("x  ORDER \n BY  y", 0, 0, "x ORDER \n BY y"),
-    # a lone CR is white space, and after it `#` and `--` are no comments
-    ("a\rb", 0, 0, "a b"),
-    ("#a\rb", 0, 0, "#a b"),
-    ("--a\r b", 0, 0, "--a b"),
-    ("--a\r\nb\rc", 0, 0, "--a\nb c"),
+    # a gap whose first CR or LF is a CR without LF becomes one CR
+    ("a\rb", 0, 0, "a\rb"),
+    ("a\r\rb", 0, 0, "a\rb"),
+    ("a \r b", 0, 0, "a\rb"),
+    ("a\r\n\rb", 0, 0, "a b"),
+    ("a \r\nb", 0, 0, "a b"),
+    ("a\n\rb", 0, 0, "a b"),
+    ("a\r\r\nb", 0, 0, "a\rb"),
+    ("a\r\nb\rc", 0, 0, "a b\rc"),
+    # no other White_Space is CR or LF
+    ("a\x0b\rb", 0, 0, "a\rb"),
+    ("a\x0c\u0085\u2028\u2029\rb", 0, 0, "a\rb"),
+    ("a\u0085\u2028\nb", 0, 0, "a b"),
+    ("a\r\u2028\nb", 0, 0, "a\rb"),
+    # also at the end, but not before the first token
+    ("a\r", 0, 0, "a\r"),
+    ("a \r", 0, 0, "a\r"),
+    ("a\r\n\r", 0, 0, "a"),
+    ("a\n\r", 0, 0, "a"),
+    ("\ra", 0, 0, "a"),
+    ("\ra\r", 0, 0, "a\r"),
     ("\r", 0, 0, ""),
-    ("a \r", 0, 0, "a"),
+    ("\r\r", 0, 0, ""),
+    # where such a CR comes first, `#` and `--` are no comments
+    ("#a\rb", 0, 0, "#a\rb"),
+    ("#a\rb\r\n", 0, 0, "#a\rb"),
+    ("--a\r b", 0, 0, "--a\rb"),
+    ("--a\r\nb\rc", 0, 0, "--a\nb\rc"),
+    # after a line comment it makes no difference
+    ("--a\n\rb", 0, 0, "--a\nb"),
+    ("--a\r\n\rb", 0, 0, "--a\nb"),
+    ("--a\n\r", 0, 0, "--a"),
+    ("/*a*/\rb", 0, 0, "/*a*/\rb"),
 )
 
 
 def worked(lines):
-    lines.group("document 01's text, and texts worked out by hand from its sentence")
+    lines.group("document 01's text, and texts worked out by hand from its sentence and document 02's rule [5]")
     for text, dialect, named, expected in WORKED:
         number, detail, got = answer(text.encode("utf-8"), dialect, 0, named, MANY)
         if (number, got) != (0, expected.encode("utf-8")) or detail != len(got):
@@ -128,7 +164,7 @@ def worked(lines):
 # Gaps of every sort, the room lent, refusals
 
 BLANKS = (
-    "\t", "\n", "\x0b", "\x0c", "\r", " ", "\r\n", "\n\n", "\r\n\r\n", " \n", "\n ", "\r\r", "\n\r", "\u0085", "\u00a0", "\u1680", "\u2000", "\u2001", "\u2002", "\u2003", "\u2004", "\u2005", "\u2006", "\u2007",
+    "\t", "\n", "\x0b", "\x0c", "\r", " ", "\r\n", "\n\n", "\r\n\r\n", " \n", "\n ", "\r\r", "\n\r", " \r", "\r ", "\r\n\r", "\r\r\n", "\u2028\r", "\u0085", "\u00a0", "\u1680", "\u2000", "\u2001", "\u2002", "\u2003", "\u2004", "\u2005", "\u2006", "\u2007",
     "\u2008", "\u2009", "\u200a", "\u2028", "\u2029", "\u202f", "\u205f", "\u3000", "\u2003\n", "\n\u2003", "  \r\n\t\u3000",
 )  # fmt: skip
 

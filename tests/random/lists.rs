@@ -89,44 +89,64 @@ pub fn tokens(text: &[u8], settings: Settings) -> Option<Vec<Token>> {
     table.chunks(RECORD).take(count as usize).map(|record| token(text, record)).collect()
 }
 
-// What must agree: the tokens without the gaps, and the places of the gaps that aren't outer.
+// A gap's sort: its first CR or LF is a CR without LF.
+fn is_returning(gap: &[u8]) -> bool {
+    let end = gap.iter().position(|b| *b == b'\r' || *b == b'\n').unwrap_or(gap.len());
+    gap[end..].starts_with(b"\r") && !gap[end..].starts_with(b"\r\n")
+}
+
+// What must agree: the tokens without the gaps, and the places and sorts of the gaps that count. No gap does before the first
+// token, and behind the last one only a gap that returns.
 #[derive(PartialEq, Debug)]
 pub struct List {
-    tokens: Vec<(u32, Vec<u8>, usize, Key)>,
-    gaps: Vec<usize>,
+    pub tokens: Vec<(u32, Vec<u8>, usize, Key)>,
+    gaps: Vec<(usize, bool)>,
 }
 
 pub fn list(text: &[u8], settings: Settings) -> Option<List> {
     let mut list = List { tokens: Vec::new(), gaps: Vec::new() };
     for token in tokens(text, settings)? {
         if token.is_gap() {
-            list.gaps.push(list.tokens.len());
+            list.gaps.push((list.tokens.len(), is_returning(token.value(text))));
         } else {
             list.tokens.push((token.kind, token.value(text).to_vec(), token.alias, token.key));
         }
     }
     let all = list.tokens.len();
-    list.gaps.retain(|place| *place != 0 && *place != all);
+    list.gaps.retain(|(place, returning)| *place != 0 && (*place != all || *returning));
     Some(list)
 }
 
-// Each value in order; a gap becomes one LF after a line comment, else one space; outer gaps go.
-pub fn tight_by_rule(text: &[u8], tokens: &[Token]) -> Vec<u8> {
+// Each value in order; a gap becomes one LF after a line comment, else `returned` where it returns, else one space. A gap
+// before the first token goes, and so does one behind the last, unless it became a CR.
+fn tight_where(text: &[u8], tokens: &[Token], returned: u8) -> Vec<u8> {
     let mut tight = Vec::new();
     let mut before: Option<u32> = None;
-    let mut gap = false;
+    let mut due = None;
     for token in tokens {
         if token.is_gap() {
-            gap = true;
+            due = before.map(|kind| match (kind, is_returning(token.value(text))) {
+                (LINE_COMMENT, _) => b'\n',
+                (_, true) => returned,
+                (_, false) => b' ',
+            });
             continue;
         }
-        if let (true, Some(kind)) = (gap, before) {
-            tight.push(if kind == LINE_COMMENT { b'\n' } else { b' ' });
-        }
+        tight.extend(due.take());
         tight.extend_from_slice(token.value(text));
-        (before, gap) = (Some(token.kind), false);
+        before = Some(token.kind);
     }
+    tight.extend(due.filter(|b| *b == b'\r'));
     tight
+}
+
+pub fn tight_by_rule(text: &[u8], tokens: &[Token]) -> Vec<u8> {
+    tight_where(text, tokens, b'\r')
+}
+
+// As if a gap that returns became a space, as others do.
+pub fn tight_with_spaces(text: &[u8], tokens: &[Token]) -> Vec<u8> {
+    tight_where(text, tokens, b' ')
 }
 
 // The tight text, never longer than the search; none where the call is refused.
@@ -135,8 +155,4 @@ pub fn tight(text: &[u8], settings: Settings) -> Option<Vec<u8>> {
     let (number, length) = calls::tighten(text, settings, &mut output);
     output.truncate(length as usize);
     (number == DONE).then_some(output)
-}
-
-pub fn has_lone_cr(text: &[u8]) -> bool {
-    (0..text.len()).any(|i| text[i] == b'\r' && text.get(i + 1) != Some(&b'\n'))
 }

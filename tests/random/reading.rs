@@ -10,7 +10,7 @@ mod texts;
 
 use calls::*;
 use escapes::escaped_in;
-use lists::{has_lone_cr, list, records, tight, tight_by_rule, tokens, Key, Token};
+use lists::{list, records, tight, tight_by_rule, tight_with_spaces, tokens, Key, Token};
 use properties::*;
 use texts::Chance;
 
@@ -157,9 +157,6 @@ fn escaped_by_value(case: &Case) -> Verdict {
 }
 
 fn tight_has_the_escapes(case: &Case) -> Verdict {
-    if has_lone_cr(&case.text) {
-        return Aside;
-    }
     let Some(tight) = tight(&case.text, case.settings) else { return Aside };
     let told = [&case.text, &tight].map(|text| escaped_told(text, case.settings));
     holds(told[0] == told[1], || format!("{:?}", told))
@@ -243,30 +240,20 @@ fn tight_is_by_rule(case: &Case) -> Verdict {
     })
 }
 
-fn compared_with_tight(case: &Case) -> Verdict {
+fn tight_has_the_tokens(case: &Case) -> Verdict {
     let Some(own) = list(&case.text, case.settings) else { return Aside };
     let Some(tight) = tight(&case.text, case.settings) else { return Fails("tighten refuses it".to_string()) };
     holds(list(&tight, case.settings) == Some(own), || format!("tight: {}", tight.escape_ascii()))
 }
 
-fn tight_has_the_tokens(case: &Case) -> Verdict {
-    if has_lone_cr(&case.text) {
-        return Aside;
-    }
-    compared_with_tight(case)
-}
-
 fn twice_is_once(case: &Case) -> Verdict {
-    if has_lone_cr(&case.text) {
-        return Aside;
-    }
     let Some(once) = tight(&case.text, case.settings) else { return Aside };
     holds(tight(&once, case.settings).as_ref() == Some(&once), || "twice differs".to_string())
 }
 
-// Whether the lists of two different searches agree, and whether their tight texts are equal; none where demand 3 steps aside.
+// Whether the lists of two different searches agree, and whether their tight texts are equal.
 fn pair(case: &Case) -> Option<(bool, bool)> {
-    if case.text == case.other || has_lone_cr(&case.text) || has_lone_cr(&case.other) {
+    if case.text == case.other {
         return None;
     }
     let agree = list(&case.text, case.settings)? == list(&case.other, case.settings)?;
@@ -296,6 +283,29 @@ fn wrong_copy(case: &Case) -> Verdict {
         Some(tight) => holds(tight == case.text, || tight.escape_ascii().to_string()),
         None => Aside,
     }
+}
+
+// The text in which a gap that returns becomes a space.
+fn spaced_text(text: &[u8], settings: Settings) -> Option<Vec<u8>> {
+    Some(tight_with_spaces(text, &tokens(text, settings)?))
+}
+
+fn wrong_spaced_text(case: &Case) -> Verdict {
+    let Some(spaced) = spaced_text(&case.text, case.settings) else { return Aside };
+    holds(tight(&case.text, case.settings).as_ref() == Some(&spaced), || spaced.escape_ascii().to_string())
+}
+
+// Gaps aside, so that it is the tokens that are read otherwise.
+fn wrong_spaced_tokens(case: &Case) -> Verdict {
+    let Some(spaced) = spaced_text(&case.text, case.settings) else { return Aside };
+    let read = [&case.text, &spaced].map(|text| list(text, case.settings).map(|list| list.tokens));
+    holds(read[0] == read[1], || spaced.escape_ascii().to_string())
+}
+
+fn wrong_spaced_key(case: &Case) -> Verdict {
+    let Some((false, _)) = pair(case) else { return Aside };
+    let spaced = [&case.text, &case.other].map(|text| spaced_text(text, case.settings));
+    holds(spaced[0] != spaced[1], || "the lists differ, the texts are equal".to_string())
 }
 
 fn wrong_white_space(case: &Case) -> Verdict {
@@ -328,18 +338,20 @@ fn main() {
         right("gaps are White_Space, all of a run, and nothing else starts with any", gaps_are_white_space),
         right("levels are the parens opened and not yet closed", levels_by_sums),
         right("escaped quotes are those that the tokens' values have", escaped_by_value),
-        right("no lone CR: the tight text has as many escaped quotes", tight_has_the_escapes),
+        right("the tight text has as many escaped quotes", tight_has_the_escapes),
         right("a table: exactly full, one byte short, odd bytes, the rest kept", table_is_told),
         right("an output: exactly full, one byte short, the rest kept", output_is_told),
         right("what the buffers held makes no difference", content_is_no_matter),
         right("joins change kinds alone", joins_change_kinds_alone),
         right("the tight text is made of the tokens by its rule", tight_is_by_rule),
-        right("no lone CR: the tight text is accepted and has the search's tokens", tight_has_the_tokens),
-        right("no lone CR: tightening twice gives what once gave", twice_is_once),
-        right("no lone CR: where lists agree, the tight texts are equal", agreeing_are_equal),
-        right("no lone CR: where lists differ, the tight texts differ", differing_are_different),
+        right("the tight text is accepted and has the search's tokens and gaps", tight_has_the_tokens),
+        right("tightening twice gives what once gave", twice_is_once),
+        right("where lists agree, the tight texts are equal", agreeing_are_equal),
+        right("where lists differ, the tight texts differ", differing_are_different),
         wrong("WRONG: the tight text is the search", wrong_copy),
-        wrong("WRONG: the tight text has the search's tokens, lone CR or not", compared_with_tight),
+        wrong("WRONG: a gap that returns becomes a space: the tight text", wrong_spaced_text),
+        wrong("WRONG: a gap that returns becomes a space: the text has the search's tokens", wrong_spaced_tokens),
+        wrong("WRONG: a gap that returns becomes a space: where lists differ, the texts differ", wrong_spaced_key),
         wrong("WRONG: searches that differ in white space alone have one tight text", wrong_white_space),
         wrong("WRONG: different searches have different tight texts", wrong_never_equal),
         wrong("WRONG: no quotes are escaped in placeholders", wrong_no_placeholders),

@@ -97,12 +97,9 @@ fn pieces(chance: &mut Chance, most: usize) -> String {
     text
 }
 
-// A gap without a lone CR, as a rule.
+// White space, now and then with a CR that has no line feed.
 pub fn gap(chance: &mut Chance) -> String {
-    if chance.one_in(40) {
-        return "\r".to_string();
-    }
-    (0..1 + chance.below(3)).map(|_| chance.pick(BLANKS)).collect()
+    (0..1 + chance.below(3)).map(|_| if chance.one_in(10) { "\r" } else { chance.pick(BLANKS) }).collect()
 }
 
 fn damage(chance: &mut Chance, text: &mut Vec<u8>) {
