@@ -30,12 +30,14 @@ all:
 test:
 	@tests/run
 
-bench: $(build)/bench_unicode $(build)/bench_reading $(build)/bench_fill
+bench: $(build)/bench_unicode $(build)/bench_reading $(build)/bench_fill $(build)/bench_slow
 	$(build)/bench_unicode
 	@echo
 	$(build)/bench_reading
 	@echo
 	$(build)/bench_fill
+	@echo
+	$(build)/bench_slow
 
 tables: $(build)/tables
 	$(build)/tables crates/unicode
@@ -72,7 +74,7 @@ $(build)/utf8: tests/unicode/utf8.rs tests/unicode/unicode.rs target/staticlib/l
 	@mkdir -p $(build)
 	$(rust) -o $@ $< -L target/staticlib -l static=unicode_exports
 
-$(build)/bench_%: bench/%.rs bench/timing.rs bench/searches.rs bench/scanner.rs bench/scanner.c tests/calls.rs tests/random/texts.rs $(archive)
+$(build)/bench_%: bench/%.rs bench/timing.rs bench/growing.rs bench/searches.rs bench/scanner.rs bench/scanner.c tests/calls.rs tests/random/texts.rs $(archive)
 	@mkdir -p $(build)
 	$(c) -c -o $(build)/scanner.o bench/scanner.c
 	rm -f $(build)/libscanner.a

@@ -2,14 +2,16 @@
 // statement and sheet together.
 #[path = "../tests/calls.rs"]
 mod calls;
+mod growing;
 mod scanner;
 mod searches;
 mod timing;
 
 use calls::{fill, DONE, RECORD};
+use growing::{growth, growths, head};
 use scanner::scan;
 use std::hint::black_box;
-use timing::{text, time_slow, together};
+use timing::{a_byte, text, together};
 
 const NAMED: u8 = 1;
 const INDEXED: u8 = 2;
@@ -56,17 +58,13 @@ fn speeds(name: &str, text: &[u8], table: &mut [u8]) {
     println!(" {:10.1} {:10.1}", times.ratio(1, 3), times.ratio(2, 3));
 }
 
-// Statement and sheet both of so many bytes; the last figure beside the first is about 1 where time grows with the length.
-fn growth(name: &str, part: &str, kind: u8) {
-    let sizes = [8192, 16384, 32768, 65536];
+// Statement and sheet both of so many bytes.
+fn growth_with(name: &str, part: &str, kind: u8) {
     let mut output = vec![0; 1 << 20];
-    let times = sizes.map(|most| {
-        let (text, sheet) = (text(part, most), wide_sheet(kind, most));
-        time_slow(|| filled(&text, &sheet, &mut output)) / text.len() as f64
+    growth(name, |most| {
+        let sheet = wide_sheet(kind, most);
+        a_byte(&text(part, most), |text| fill(text, [0, 0, 0], &sheet, &mut output))
     });
-    print!("{name:34}");
-    times.iter().for_each(|time| print!("{time:10.1}"));
-    println!("{:8.1}", times[3] / times[0]);
 }
 
 fn main() {
@@ -78,13 +76,15 @@ fn main() {
     for (name, text) in searches::all() {
         speeds(name, &text, &mut table);
     }
-    println!("\nfill, ns a byte                        8 KiB    16 KiB    32 KiB    64 KiB  growth");
-    growth("?, indexed sheet as long", "? ", INDEXED);
-    growth("$30000, indexed sheet as long", "$30000 ", INDEXED);
-    growth("$1, indexed sheet as long", "$1 ", INDEXED);
-    growth("?, named sheet as long", "? ", NAMED);
-    growth(":a, the last of a named sheet", ":a ", NAMED);
-    growth(":b, the first of it", ":b ", NAMED);
-    growth(":c, not in it", ":c ", NAMED);
-    growth("{ .. , named sheet as long", "{", NAMED);
+    head("fill with a sheet, ns a byte");
+    growth_with("?, indexed sheet as long", "? ", INDEXED);
+    growth_with("$30000, indexed sheet as long", "$30000 ", INDEXED);
+    growth_with("$1, indexed sheet as long", "$1 ", INDEXED);
+    growth_with("?, named sheet as long", "? ", NAMED);
+    growth_with(":a, the last of a named sheet", ":a ", NAMED);
+    growth_with(":b, the first of it", ":b ", NAMED);
+    growth_with(":c, not in it", ":c ", NAMED);
+    growth_with("{ .. , named sheet as long", "{", NAMED);
+    let mut output = vec![0; 1 << 20];
+    growths("fill without values, ns a byte", |text, settings| fill(text, settings, &[0, 0, 0], &mut output));
 }

@@ -1,6 +1,7 @@
 // What the benchmarks share.
 #![allow(dead_code)]
 
+use std::hint::black_box;
 use std::time::Instant;
 
 const BATCHES: usize = 31;
@@ -62,6 +63,13 @@ pub fn time_slow(mut call: impl FnMut()) -> f64 {
         _ => 0,
     };
     (0..more).map(|_| batch(&mut call, 1)).fold(first, f64::min)
+}
+
+// The same for a call on a text, in nanoseconds a byte.
+pub fn a_byte<T>(text: &[u8], mut call: impl FnMut(&[u8]) -> T) -> f64 {
+    time_slow(|| {
+        black_box(call(black_box(text)));
+    }) / text.len() as f64
 }
 
 // The part over and over, up to so many bytes, ending between two characters.

@@ -887,6 +887,23 @@ def whole_searches(vectors):
                     vectors.case(text, dialect, joins, named)
 
 
+def unclosed(vectors):
+    """A look for a closing sign that fails tells of later ones: openers of all sorts before and behind what closes them"""
+    vectors.group("openers over and over, with a closing sign nowhere, behind them, and in their midst")
+    openers = ("'", "'\\", "\"", "\"\\", "[", "@[", ":[", "{", "#", "--", "`", "@'\\", "N'\\")
+    for opener in openers:
+        for closer in ("", "'", "\"", "]", "]]", "}", "\r", "\n", "\r\n", "`", "\\'", "''"):
+            for text in (opener * 5 + closer, opener * 3 + closer + opener * 3, closer + opener * 4, opener + "a" + closer + opener):
+                vectors.case(text, 0)
+                vectors.case(text, 2)
+    vectors.group("random texts of openers and closers")
+    chance = random.Random(20261116)
+    parts = openers + ("'", "\"", "]", "}", "\r", "\n", "\\", "a", " ", "*/", "/*", "''", "\"\"", "]]")
+    for _ in range(900):
+        text = "".join(chance.choice(parts) for _ in range(chance.randint(4, 24)))
+        vectors.case(text, chance.randint(0, 2), 0, chance.randint(0, 1))
+
+
 def random_texts(vectors):
     chance = random.Random(20261115)
     vectors.group("random texts of pieces, random settings")
@@ -931,6 +948,7 @@ GROUPS_OF_CASES = (
     characters,
     short_texts,
     whole_searches,
+    unclosed,
     random_texts,
 )
 

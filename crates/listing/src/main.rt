@@ -33,9 +33,10 @@ fn print_token(token: Token, level: usize) {
 
 fn print_tokens(statement: &[u8], settings: Settings) {
     let mut level = 0;
+    let mut hints = recognisers::no_hints();
     let mut cursor = tokenizer::at_start();
     loop {
-        match tokenizer::next_step(statement, settings, cursor) {
+        match tokenizer::next_step(statement, settings, cursor, &mut hints) {
             Step::Token(token, next) => {
                 print_token(token, level);
                 let kind = token.kind;

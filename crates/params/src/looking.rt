@@ -11,6 +11,7 @@ use calls::Checked;
 use calls::Settings;
 use calls::refusal_detail;
 use calls::refusal_number;
+use recognisers::no_hints;
 use tokenizer::Step;
 use tokenizer::Token;
 use tokenizer::at_start;
@@ -54,9 +55,10 @@ fn find(statement: &[u8], settings: Settings, sheet: &[u8], place: usize, counte
     ensures { λ r. ⌜ PartInside (now (statement .entry)) (now (sheet .entry)) (r .part) ⌝ }
 {
     let mut ahead = place;
+    let mut hints = no_hints();
     let mut cursor = at_start();
     loop {
-        match next_step(statement, settings, cursor) {
+        match next_step(statement, settings, cursor, &mut hints) {
             Step::Token(token, next) => {
                 if ahead == 0 {
                     return found_for(statement, sheet, counter, token);

@@ -7,6 +7,7 @@ use crate::parts::part_length;
 use crate::parts::put_part;
 use crate::places::params_at;
 use calls::Settings;
+use recognisers::no_hints;
 use tokenizer::Step;
 use tokenizer::Token;
 use tokenizer::at_start;
@@ -61,9 +62,10 @@ pub fn filled_length(statement: &[u8], settings: Settings, sheet: &[u8]) -> usiz
 {
     let mut count = 0;
     let mut params = params_at(sheet, 0);
+    let mut hints = no_hints();
     let mut cursor = at_start();
     loop {
-        match next_step(statement, settings, cursor) {
+        match next_step(statement, settings, cursor, &mut hints) {
             Step::Token(token, next) => {
                 count += length_for(statement, sheet, params, token);
                 params = params_past(statement, sheet, params, token);
@@ -84,9 +86,10 @@ pub fn write_filled(statement: &[u8], settings: Settings, sheet: &[u8], output: 
 {
     let mut at = 0;
     let mut params = params_at(sheet, 0);
+    let mut hints = no_hints();
     let mut cursor = at_start();
     loop {
-        match next_step(statement, settings, cursor) {
+        match next_step(statement, settings, cursor, &mut hints) {
             Step::Token(token, next) => {
                 at = put_for(statement, sheet, params, token, output, at);
                 params = params_past(statement, sheet, params, token);

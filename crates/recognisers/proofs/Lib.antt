@@ -8,6 +8,7 @@ pub mod MatchedAnswers
 pub mod CommentLoops
 pub mod ClosingQuote
 pub mod EscapedQuotes
+pub mod Unclosed
 pub mod Blanks
 pub mod Digits
 pub mod PlaceholderLaws

@@ -2,6 +2,8 @@
 use crate::Recognised;
 use crate::Taken;
 use crate::TokenKind;
+use crate::hints::LINE;
+use crate::hints::LONE;
 use crate::scan::first_recognised;
 use crate::scan::is_spelled;
 use crate::scan::n_more;
@@ -11,6 +13,7 @@ use crate::scan::token_of;
 ghost use mathlib.Core.Path.{_≡_};
 ghost use Rattle.recognisers.specs.Taking.{literal};
 ghost use Rattle.recognisers.specs.Comment.{tillLineEnding, throughBlockEnd, getCommentToken};
+ghost use Rattle.recognisers.specs.Inner.Known.{Truthful};
 
 // Up to LF, CR LF or the end; a CR without LF is refused.
 fn till_line_ending(rest: &[u8]) -> Taken
@@ -47,12 +50,26 @@ fn through_block_end(rest: &[u8]) -> Taken
     Taken::Bytes(i)
 }
 
-fn line_comment(rest: &[u8], mark: &[u8]) -> Taken
+// The same where hints are had: a line that a CR without LF ends is not read again.
+fn till_line_ending_known(rest: &[u8], hints: &[usize]) -> Taken
+    requires { ⌜ Truthful (now hints) (now rest) ⌝ }
+    ensures { λ r. ⌜ r ≡ tillLineEnding (now (rest .entry)) ⌝ }
+{
+    if hints[LONE] <= rest.len() {
+        if rest.len() <= hints[LINE] {
+            return Taken::Fails;
+        }
+    }
+    till_line_ending(rest)
+}
+
+fn line_comment(rest: &[u8], mark: &[u8], hints: &[usize]) -> Taken
+    requires { ⌜ Truthful (now hints) (now rest) ⌝ }
     ensures { λ r. ⌜ r ≡ literal (now (mark .entry)) tillLineEnding (now (rest .entry)) ⌝ }
 {
     if is_spelled(rest, mark) {
         let n = mark.len();
-        return n_more(n, till_line_ending(&rest[n..]));
+        return n_more(n, till_line_ending_known(&rest[n..], hints));
     }
     Taken::Fails
 }
@@ -67,11 +84,12 @@ fn block_comment(rest: &[u8], mark: &[u8]) -> Taken
     Taken::Fails
 }
 
-pub fn get_comment_token(rest: &[u8]) -> Recognised
+pub fn get_comment_token(rest: &[u8], hints: &[usize]) -> Recognised
+    requires { ⌜ Truthful (now hints) (now rest) ⌝ }
     ensures { λ r. ⌜ r ≡ getCommentToken (now (rest .entry)) ⌝ }
 {
-    let hash = token_of(TokenKind::LineComment, line_comment(rest, b"#"));
-    let dashes = token_of(TokenKind::LineComment, line_comment(rest, b"--"));
+    let hash = token_of(TokenKind::LineComment, line_comment(rest, b"#", hints));
+    let dashes = token_of(TokenKind::LineComment, line_comment(rest, b"--", hints));
     let block = token_of(TokenKind::BlockComment, block_comment(rest, b"/*"));
     first_recognised(hash, first_recognised(dashes, block))
 }

@@ -3,7 +3,9 @@
 mod comment;
 mod comparing;
 mod escaped_quotes;
+mod hints;
 mod kinds;
+mod learning;
 mod numbers;
 mod parens;
 mod placeholders;
@@ -14,8 +16,10 @@ mod words;
 
 pub use comment::get_comment_token;
 pub use comparing::is_exactly;
+pub use hints::no_hints;
 pub use kinds::is_kind;
 pub use kinds::kind_number;
+pub use learning::learn_opener;
 pub use numbers::get_number_token;
 pub use parens::get_close_paren_token;
 pub use parens::get_open_paren_token;

@@ -7,6 +7,7 @@ use crate::Recognised;
 use crate::Taken;
 use crate::TokenKind;
 use crate::escaped_quotes::string_named_pairs;
+use crate::hints::BRACE;
 use crate::numbers::marked_digits;
 use crate::scan::at_least;
 use crate::scan::exactly;
@@ -26,6 +27,7 @@ ghost use Rattle.recognisers.specs.Taking.{one, literal, contains};
 ghost use Rattle.recognisers.specs.Pieces.{alt};
 ghost use Rattle.recognisers.specs.Strings.{placeholderStringTaken};
 ghost use Rattle.recognisers.specs.Placeholder.{numberOf, indexed, indexedKey, indexedTaken, getIndexedPlaceholderToken, placeholderName, identTaken, getIdentNamedPlaceholderToken, throughBrace, bracedText, bracedTaken, getBracedNamedPlaceholderToken, hasEscape, stringKey, stringNamedTaken, getStringNamedPlaceholderToken, getPlaceholderToken};
+ghost use Rattle.recognisers.specs.Inner.Known.{Truthful};
 
 fn digit_of(b: u8) -> u64
     ensures { λ r. ⌜ r ≡ b - 48 ⌝ }
@@ -147,7 +149,7 @@ pub fn get_ident_named_placeholder_token(rest: &[u8]) -> Recognised
     }
 }
 
-fn through_brace(rest: &[u8]) -> Taken
+pub fn through_brace(rest: &[u8]) -> Taken
     ensures { λ r. ⌜ r ≡ throughBrace (now (rest .entry)) ⌝ }
 {
     let mut i = 0;
@@ -160,35 +162,42 @@ fn through_brace(rest: &[u8]) -> Taken
     Taken::Fails
 }
 
-fn braced_text(rest: &[u8]) -> Taken
+fn braced_text(rest: &[u8], hints: &[usize]) -> Taken
+    requires { ⌜ Truthful (now hints) (now rest) ⌝ }
     ensures { λ r. ⌜ r ≡ bracedText (now (rest .entry)) ⌝ }
 {
     if stands_at(rest, 0, b'}') {
         return Taken::Fails;
     }
+    if rest.len() <= hints[BRACE] {
+        return Taken::Fails;
+    }
     through_brace(rest)
 }
 
-fn braced_after(rest: &[u8], brace: &[u8]) -> Taken
+fn braced_after(rest: &[u8], brace: &[u8], hints: &[usize]) -> Taken
+    requires { ⌜ Truthful (now hints) (now rest) ⌝ }
     ensures { λ r. ⌜ r ≡ literal (now (brace .entry)) bracedText (now (rest .entry)) ⌝ }
 {
     if is_spelled(rest, brace) {
         let n = brace.len();
-        return n_more(n, braced_text(&rest[n..]));
+        return n_more(n, braced_text(&rest[n..], hints));
     }
     Taken::Fails
 }
 
-fn braced_taken(rest: &[u8]) -> Taken
+fn braced_taken(rest: &[u8], hints: &[usize]) -> Taken
+    requires { ⌜ Truthful (now hints) (now rest) ⌝ }
     ensures { λ r. ⌜ r ≡ bracedTaken (now (rest .entry)) ⌝ }
 {
-    braced_after(rest, b"{")
+    braced_after(rest, b"{", hints)
 }
 
-pub fn get_braced_named_placeholder_token(rest: &[u8]) -> Recognised
+pub fn get_braced_named_placeholder_token(rest: &[u8], hints: &[usize]) -> Recognised
+    requires { ⌜ Truthful (now hints) (now rest) ⌝ }
     ensures { λ r. ⌜ r ≡ getBracedNamedPlaceholderToken (now (rest .entry)) ⌝ }
 {
-    let part = braced_taken(rest);
+    let part = braced_taken(rest, hints);
     match part {
         Taken::Bytes(n) => {
             let len = less(n, 2);
@@ -239,25 +248,32 @@ fn string_key(rest: &[u8], n: usize) -> Key
     }
 }
 
-fn marked_string(rest: &[u8], marks: &[u8], dialect: Dialect) -> Taken
+fn marked_string(rest: &[u8], marks: &[u8], dialect: Dialect, hints: &[usize]) -> Taken
+    requires { ⌜ Truthful (now hints) (now rest) ⌝ }
     ensures { λ r. ⌜ r ≡ one (contains (now (marks .entry))) (placeholderStringTaken dialect) (now (rest .entry)) ⌝ }
 {
     if starts_among(rest, marks) {
-        return n_more(1, placeholder_string_taken(&rest[1..], dialect));
+        return n_more(1, placeholder_string_taken(&rest[1..], dialect, hints));
     }
     Taken::Fails
 }
 
-fn string_named_taken(rest: &[u8], dialect: Dialect) -> Taken
+fn string_named_taken(rest: &[u8], dialect: Dialect, hints: &[usize]) -> Taken
+    requires { ⌜ Truthful (now hints) (now rest) ⌝ }
     ensures { λ r. ⌜ r ≡ stringNamedTaken dialect (now (rest .entry)) ⌝ }
 {
-    marked_string(rest, b"@:", dialect)
+    marked_string(rest, b"@:", dialect, hints)
 }
 
-pub fn get_string_named_placeholder_token(rest: &[u8], dialect: Dialect) -> Recognised
+pub fn get_string_named_placeholder_token(
+    rest: &[u8],
+    dialect: Dialect,
+    hints: &[usize],
+) -> Recognised
+    requires { ⌜ Truthful (now hints) (now rest) ⌝ }
     ensures { λ r. ⌜ r ≡ getStringNamedPlaceholderToken dialect (now (rest .entry)) ⌝ }
 {
-    let part = string_named_taken(rest, dialect);
+    let part = string_named_taken(rest, dialect, hints);
     match part {
         Taken::Bytes(n) => {
             let key = string_key(rest, n);
@@ -275,65 +291,77 @@ pub fn get_string_named_placeholder_token(rest: &[u8], dialect: Dialect) -> Reco
 }
 
 // Each alternative is tried only where those before it recognise nothing: `$1$1..` would be one long name.
-fn index_or_braces(rest: &[u8]) -> Recognised
+fn index_or_braces(rest: &[u8], hints: &[usize]) -> Recognised
+    requires { ⌜ Truthful (now hints) (now rest) ⌝ }
     ensures { λ r. ⌜ r ≡ alt (getIndexedPlaceholderToken (now (rest .entry))) (getBracedNamedPlaceholderToken (now (rest .entry))) ⌝ }
 {
     match get_indexed_placeholder_token(rest) {
         Recognised::Token(piece) => Recognised::Token(piece),
-        Recognised::Nothing => get_braced_named_placeholder_token(rest),
+        Recognised::Nothing => get_braced_named_placeholder_token(rest, hints),
     }
 }
 
-fn string_then_index(rest: &[u8], dialect: Dialect) -> Recognised
+fn string_then_index(rest: &[u8], dialect: Dialect, hints: &[usize]) -> Recognised
+    requires { ⌜ Truthful (now hints) (now rest) ⌝ }
     ensures { λ r. ⌜ r ≡ alt (getStringNamedPlaceholderToken dialect (now (rest .entry))) (alt (getIndexedPlaceholderToken (now (rest .entry))) (getBracedNamedPlaceholderToken (now (rest .entry)))) ⌝ }
 {
-    match get_string_named_placeholder_token(rest, dialect) {
+    match get_string_named_placeholder_token(rest, dialect, hints) {
         Recognised::Token(piece) => Recognised::Token(piece),
-        Recognised::Nothing => index_or_braces(rest),
+        Recognised::Nothing => index_or_braces(rest, hints),
     }
 }
 
-fn names_first(rest: &[u8], dialect: Dialect) -> Recognised
+fn names_first(rest: &[u8], dialect: Dialect, hints: &[usize]) -> Recognised
+    requires { ⌜ Truthful (now hints) (now rest) ⌝ }
     ensures { λ r. ⌜ r ≡ getPlaceholderToken true dialect (now (rest .entry)) ⌝ }
 {
     match get_ident_named_placeholder_token(rest) {
         Recognised::Token(piece) => Recognised::Token(piece),
-        Recognised::Nothing => string_then_index(rest, dialect),
+        Recognised::Nothing => string_then_index(rest, dialect, hints),
     }
 }
 
-fn string_or_braces(rest: &[u8], dialect: Dialect) -> Recognised
+fn string_or_braces(rest: &[u8], dialect: Dialect, hints: &[usize]) -> Recognised
+    requires { ⌜ Truthful (now hints) (now rest) ⌝ }
     ensures { λ r. ⌜ r ≡ alt (getStringNamedPlaceholderToken dialect (now (rest .entry))) (getBracedNamedPlaceholderToken (now (rest .entry))) ⌝ }
 {
-    match get_string_named_placeholder_token(rest, dialect) {
+    match get_string_named_placeholder_token(rest, dialect, hints) {
         Recognised::Token(piece) => Recognised::Token(piece),
-        Recognised::Nothing => get_braced_named_placeholder_token(rest),
+        Recognised::Nothing => get_braced_named_placeholder_token(rest, hints),
     }
 }
 
-fn ident_then_string(rest: &[u8], dialect: Dialect) -> Recognised
+fn ident_then_string(rest: &[u8], dialect: Dialect, hints: &[usize]) -> Recognised
+    requires { ⌜ Truthful (now hints) (now rest) ⌝ }
     ensures { λ r. ⌜ r ≡ alt (getIdentNamedPlaceholderToken (now (rest .entry))) (alt (getStringNamedPlaceholderToken dialect (now (rest .entry))) (getBracedNamedPlaceholderToken (now (rest .entry)))) ⌝ }
 {
     match get_ident_named_placeholder_token(rest) {
         Recognised::Token(piece) => Recognised::Token(piece),
-        Recognised::Nothing => string_or_braces(rest, dialect),
+        Recognised::Nothing => string_or_braces(rest, dialect, hints),
     }
 }
 
-fn places_first(rest: &[u8], dialect: Dialect) -> Recognised
+fn places_first(rest: &[u8], dialect: Dialect, hints: &[usize]) -> Recognised
+    requires { ⌜ Truthful (now hints) (now rest) ⌝ }
     ensures { λ r. ⌜ r ≡ getPlaceholderToken false dialect (now (rest .entry)) ⌝ }
 {
     match get_indexed_placeholder_token(rest) {
         Recognised::Token(piece) => Recognised::Token(piece),
-        Recognised::Nothing => ident_then_string(rest, dialect),
+        Recognised::Nothing => ident_then_string(rest, dialect, hints),
     }
 }
 
-pub fn get_placeholder_token(rest: &[u8], named: bool, dialect: Dialect) -> Recognised
+pub fn get_placeholder_token(
+    rest: &[u8],
+    named: bool,
+    dialect: Dialect,
+    hints: &[usize],
+) -> Recognised
+    requires { ⌜ Truthful (now hints) (now rest) ⌝ }
     ensures { λ r. ⌜ r ≡ getPlaceholderToken named dialect (now (rest .entry)) ⌝ }
 {
     if named {
-        return names_first(rest, dialect);
+        return names_first(rest, dialect, hints);
     }
-    places_first(rest, dialect)
+    places_first(rest, dialect, hints)
 }

@@ -6,6 +6,9 @@ use crate::Recognised;
 use crate::Taken;
 use crate::TokenKind;
 use crate::escaped_quotes::string_pairs;
+use crate::hints::DOUBLE;
+use crate::hints::SINGLE;
+use crate::hints::SQUARE;
 use crate::scan::first_of;
 use crate::scan::is_among;
 use crate::scan::is_spelled;
@@ -18,6 +21,7 @@ ghost use lib.ListN.{length, drop, getD};
 ghost use Rattle.recognisers.specs.Text.{byte, bytes};
 ghost use Rattle.recognisers.specs.Taking.{or, literal, contains, startsWith};
 ghost use Rattle.recognisers.specs.Strings.{takeTillEscaping, closedBy, inSQLServer, hexTaken, quotedTaken, stringTaken, getStringToken, placeholderQuotedTaken, placeholderStringTaken};
+ghost use Rattle.recognisers.specs.Inner.Known.{Known, Truthful};
 
 // An escape stands at i, and the desired byte behind it.
 pub fn escaped_at(rest: &[u8], i: usize, desired: u8, escapes: &[u8]) -> bool
@@ -44,6 +48,26 @@ pub fn take_till_escaping(rest: &[u8], desired: u8, escapes: &[u8]) -> Taken
     Taken::Fails
 }
 
+// The same, where the rests of at most `known` bytes lack their closing quote unless they start with one: there only the quotes at the
+// start are read.
+fn take_till_escaping_known(rest: &[u8], desired: u8, escapes: &[u8], known: usize) -> Taken
+    requires { ⌜ Known desired (now escapes) (now rest) known ⌝ }
+    ensures { λ r. ⌜ r ≡ takeTillEscaping desired (now (escapes .entry)) false (now (rest .entry)) ⌝ }
+{
+    if known < rest.len() {
+        return take_till_escaping(rest, desired, escapes);
+    }
+    let mut i = 0;
+    while stands_at(rest, i, desired) {
+        if escaped_at(rest, i, desired, escapes) {
+            i += 2;
+        } else {
+            return Taken::Bytes(i);
+        }
+    }
+    Taken::Fails
+}
+
 // `(take_till_escaping(..), any)`: through the closing quote.
 fn closed_by(rest: &[u8], desired: u8, escapes: &[u8]) -> Taken
     ensures { λ r. ⌜ r ≡ closedBy desired (now (escapes .entry)) (now (rest .entry)) ⌝ }
@@ -61,13 +85,32 @@ fn quoted(rest: &[u8], opener: &[u8], desired: u8, escapes: &[u8]) -> Taken
     Taken::Fails
 }
 
-fn bracketed(rest: &[u8], dialect: Dialect) -> Taken
+fn closed_by_known(rest: &[u8], desired: u8, escapes: &[u8], known: usize) -> Taken
+    requires { ⌜ Known desired (now escapes) (now rest) known ⌝ }
+    ensures { λ r. ⌜ r ≡ closedBy desired (now (escapes .entry)) (now (rest .entry)) ⌝ }
+{
+    n_more(1, take_till_escaping_known(rest, desired, escapes, known))
+}
+
+fn quoted_known(rest: &[u8], opener: &[u8], desired: u8, escapes: &[u8], known: usize) -> Taken
+    requires { ⌜ Known desired (now escapes) (now rest) known ⌝ }
+    ensures { λ r. ⌜ r ≡ literal (now (opener .entry)) (closedBy desired (now (escapes .entry))) (now (rest .entry)) ⌝ }
+{
+    if is_spelled(rest, opener) {
+        let n = opener.len();
+        return n_more(n, closed_by_known(&rest[n..], desired, escapes, known));
+    }
+    Taken::Fails
+}
+
+fn bracketed(rest: &[u8], dialect: Dialect, hints: &[usize]) -> Taken
+    requires { ⌜ Truthful (now hints) (now rest) ⌝ }
     ensures { λ r. ⌜ r ≡ inSQLServer dialect (literal (bytes "[") (closedBy (byte "]") (bytes "]"))) (now (rest .entry)) ⌝ }
 {
     match dialect {
         Dialect::Generic => Taken::Fails,
         Dialect::PostgreSql => Taken::Fails,
-        Dialect::SQLServer => quoted(rest, b"[", b']', b"]"),
+        Dialect::SQLServer => quoted_known(rest, b"[", b']', b"]", hints[SQUARE]),
     }
 }
 
@@ -89,25 +132,29 @@ fn prefixed_taken(rest: &[u8]) -> Taken
     first_of(national, first_of(escape, hex_taken(rest)))
 }
 
-fn quoted_taken(rest: &[u8]) -> Taken
+fn quoted_taken(rest: &[u8], hints: &[usize]) -> Taken
+    requires { ⌜ Truthful (now hints) (now rest) ⌝ }
     ensures { λ r. ⌜ r ≡ quotedTaken (now (rest .entry)) ⌝ }
 {
-    let double = quoted(rest, b"\"", b'"', b"\"\\");
-    let single = quoted(rest, b"'", b'\'', b"'\\");
+    let double = quoted_known(rest, b"\"", b'"', b"\"\\", hints[DOUBLE]);
+    let single = quoted_known(rest, b"'", b'\'', b"'\\", hints[SINGLE]);
     first_of(double, first_of(single, prefixed_taken(rest)))
 }
 
-fn string_taken(rest: &[u8], dialect: Dialect) -> Taken
+fn string_taken(rest: &[u8], dialect: Dialect, hints: &[usize]) -> Taken
+    requires { ⌜ Truthful (now hints) (now rest) ⌝ }
     ensures { λ r. ⌜ r ≡ stringTaken dialect (now (rest .entry)) ⌝ }
 {
     let tick = quoted(rest, b"`", b'`', b"`");
-    first_of(tick, first_of(bracketed(rest, dialect), quoted_taken(rest)))
+    let bracket = bracketed(rest, dialect, hints);
+    first_of(tick, first_of(bracket, quoted_taken(rest, hints)))
 }
 
-pub fn get_string_token(rest: &[u8], dialect: Dialect) -> Recognised
+pub fn get_string_token(rest: &[u8], dialect: Dialect, hints: &[usize]) -> Recognised
+    requires { ⌜ Truthful (now hints) (now rest) ⌝ }
     ensures { λ r. ⌜ r ≡ getStringToken dialect (now (rest .entry)) ⌝ }
 {
-    match string_taken(rest, dialect) {
+    match string_taken(rest, dialect, hints) {
         Taken::Bytes(n) => {
             let escaped = string_pairs(&rest[..n]);
             Recognised::Token(Piece {
@@ -131,12 +178,11 @@ fn placeholder_quoted_taken(rest: &[u8]) -> Taken
     first_of(double, first_of(single, quoted(rest, b"N'", b'\'', b"\\")))
 }
 
-pub fn placeholder_string_taken(rest: &[u8], dialect: Dialect) -> Taken
+pub fn placeholder_string_taken(rest: &[u8], dialect: Dialect, hints: &[usize]) -> Taken
+    requires { ⌜ Truthful (now hints) (now rest) ⌝ }
     ensures { λ r. ⌜ r ≡ placeholderStringTaken dialect (now (rest .entry)) ⌝ }
 {
     let tick = quoted(rest, b"`", b'`', b"`");
-    first_of(
-        tick,
-        first_of(bracketed(rest, dialect), placeholder_quoted_taken(rest)),
-    )
+    let bracket = bracketed(rest, dialect, hints);
+    first_of(tick, first_of(bracket, placeholder_quoted_taken(rest)))
 }

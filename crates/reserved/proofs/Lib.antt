@@ -1,6 +1,7 @@
 -- Laws that the proofs cite, and those of the Rust's own form of the definitions (Uc..).
 pub mod Behind
 pub mod PhraseWalk
+pub mod MeasuredGaps
 pub mod FirstEntry
 pub mod EntryTokens
 pub mod PhraseSizes

@@ -81,13 +81,13 @@ module _ (s : List ℕ) (p : ℕ) where
     unfolding walk
     gap-taken z = blanks-then s n r done (Bytes 0) (Bytes n) z refl (ap Bytes (sym (add-zero n))) ∙ rw (eq-eqb p 32 e)
 
-  module _ (ne : p ≡ 32 → ⊥) where
+  module _ (ne : eqb p 32 ≡ false) where
     pub letter-none : length s ≡ 0 → Fails ≡ walk (p ∷ []) done s
     unfolding walk one
     letter-none z = go s refl
       where
         go : (t : List ℕ) → s ≡ t → Fails ≡ cond (eqb p 32) (blanks done s) (one (λ b. eqb (capital b) p) done s)
-        go [] q = rw (ne-eqb p 32 ne, q)
+        go [] q = rw (ne, q)
         go (b ∷ t) q = absurd (let l : length (b ∷ t) ≡ 0 = rw q at z in let y : ⊥ = omega arith in y)
 
     module _ (some : length s ≡ 0 → ⊥) (x : ℕ) (c : x ≡ capital (getD s 0 0)) where
@@ -99,7 +99,7 @@ module _ (s : List ℕ) (p : ℕ) where
           go [] q = absurd (some (rw q))
           go (b ∷ t) q =
               let d : capital b ≡ p = sym (rw q at c) ∙ e in
-              rw (ne-eqb p 32 ne, q, eq-eqb (capital b) p d)
+              rw (ne, q, eq-eqb (capital b) p d)
 
       pub letter-other : (x ≡ p → ⊥) → Fails ≡ walk (p ∷ []) done s
       unfolding walk one
@@ -109,7 +109,10 @@ module _ (s : List ℕ) (p : ℕ) where
           go [] q = absurd (some (rw q))
           go (b ∷ t) q =
               let d : x ≡ capital b = rw q at c in
-              rw (ne-eqb p 32 ne, q, ne-eqb (capital b) p (λ y. e (d ∙ y)))
+              rw (ne, q, ne-eqb (capital b) p (λ y. e (d ∙ y)))
+
+pub letter-there : (s : List ℕ) (at p : ℕ) (t : Taken) → t ≡ walk (p ∷ []) done (take (length s - at) (drop at s)) → t ≡ walk (p ∷ []) done (drop at s)
+letter-there s at p t e = e ∙ ap (walk (p ∷ []) done) (part-end s at)
 
 -- ---- the loop of `words_end`
 
@@ -121,14 +124,11 @@ pub record WalkAt (words s : List ℕ) (at i : ℕ) : Type 0 where
 pub walk-start : (words s : List ℕ) → WalkAt words s 0 0
 walk-start words s = record { inside = zero-le; there = zero-le; same = sym (more-zero (walk words done s)) }
 
-module _ (words s : List ℕ) (at i : ℕ) (w : WalkAt words s at i) (h : i < length words) (t : Taken) (e : t ≡ walk (getD words i 0 ∷ []) done (take (length s - at) (drop at s))) where
-  t-is : t ≡ walk (getD words i 0 ∷ []) done (drop at s)
-  t-is = e ∙ ap (walk (getD words i 0 ∷ []) done) (part-end s at)
-
+module _ (words s : List ℕ) (at i : ℕ) (w : WalkAt words s at i) (h : i < length words) (t : Taken) (e : t ≡ walk (getD words i 0 ∷ []) done (drop at s)) where
   go-on : walk words done s ≡ more at (behind t (walk (drop (suc i) words) done) (drop at s))
   go-on =
       let k : walk (drop i words) done (drop at s) ≡ behind t (walk (drop (suc i) words) done) (drop at s) =
-      rw (drop-cons words i 0 h, t-is) (walk-step (getD words i 0) (drop (suc i) words) done (drop at s)) in
+      rw (drop-cons words i 0 h, e) (walk-step (getD words i 0) (drop (suc i) words) done (drop at s)) in
       w .same ∙ ap (more at) k
 
   pub walk-fails : t ≡ Fails → Fails ≡ walk words done s
@@ -137,7 +137,7 @@ module _ (words s : List ℕ) (at i : ℕ) (w : WalkAt words s at i) (h : i < le
   module _ (n : ℕ) (f : t ≡ Bytes n) where
     fits : at + n ≤ length s
     fits =
-        let k : taken t ≤ length (drop at s) = rw t-is (walk-inside (getD words i 0 ∷ []) done done-inside (drop at s)) in
+        let k : taken t ≤ length (drop at s) = rw e (walk-inside (getD words i 0 ∷ []) done done-inside (drop at s)) in
         let m : n ≤ length (drop at s) = rw f at k in
         let th = w .there in
         omega (arith, length-drop at s)

@@ -1,5 +1,6 @@
 // `get_reserved_word_token` and the reserved phrases of src/tokenizer.rs.
 mod find;
+mod gaps;
 mod phrases;
 mod tables;
 mod words;

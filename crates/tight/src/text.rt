@@ -7,6 +7,7 @@ use crate::gaps::gap_at_end;
 use crate::gaps::gap_length;
 use crate::gaps::spacing_past;
 use calls::Settings;
+use recognisers::no_hints;
 use tokenizer::Step;
 use tokenizer::at_start;
 use tokenizer::next_step;
@@ -21,9 +22,10 @@ pub fn tight_length(statement: &[u8], settings: Settings) -> usize
 {
     let mut count = 0;
     let mut spacing = before_first();
+    let mut hints = no_hints();
     let mut cursor = at_start();
     loop {
-        match next_step(statement, settings, cursor) {
+        match next_step(statement, settings, cursor, &mut hints) {
             Step::Token(token, next) => {
                 let lead = spacing.lead;
                 count += added_length(lead, token);
@@ -47,9 +49,10 @@ pub fn write_tight(statement: &[u8], settings: Settings, output: &mut [u8]) -> u
 {
     let mut at = 0;
     let mut spacing = before_first();
+    let mut hints = no_hints();
     let mut cursor = at_start();
     loop {
-        match next_step(statement, settings, cursor) {
+        match next_step(statement, settings, cursor, &mut hints) {
             Step::Token(token, next) => {
                 let lead = spacing.lead;
                 put_added(statement, lead, token, output, at);

@@ -6,14 +6,18 @@ use crate::Token;
 use crate::choice::next_piece;
 use crate::remembering::remember_piece;
 use calls::Settings;
+use recognisers::Dialect;
 use recognisers::Key;
 use recognisers::Recognised;
 use recognisers::TokenKind;
 use recognisers::is_kind;
+use recognisers::learn_opener;
 use reserved::TopLevel;
 ghost use mathlib.Core.Path.{_≡_};
 ghost use Prim.Native.Nat.{_+_, _^_, _<_};
+ghost use lib.ListN.{length};
 ghost use Rattle.recognisers.specs.Inner.KeyStart.{keyStart};
+ghost use Rattle.recognisers.specs.Inner.Known.{Truthful};
 ghost use Rattle.tokenizer.specs.Memory.{start};
 ghost use Rattle.tokenizer.specs.Tokens.{givenOut, placed, stepAt};
 
@@ -65,8 +69,22 @@ fn place_key(at: usize, key: Key) -> Key
     }
 }
 
-pub fn next_step(statement: &[u8], settings: Settings, cursor: Cursor) -> Step
+// An opener that opens nothing is an Operator.
+fn learn(statement: &[u8], at: usize, kind: TokenKind, dialect: Dialect, hints: &mut [usize])
+    requires { ⌜ at < length (now statement) ⌝ }
+    requires { ⌜ Truthful (now hints) (now statement) ⌝ }
+    ensures { λ _. ⌜ Truthful (now (hints .exit)) (now (statement .entry)) ⌝ }
+{
+    if is_kind(kind, TokenKind::Operator) {
+        learn_opener(statement, at, dialect, hints);
+    }
+}
+
+// What is known of the statement's end goes along, and grows where an opener opened nothing.
+pub fn next_step(statement: &[u8], settings: Settings, cursor: Cursor, hints: &mut [usize]) -> Step
+    requires { ⌜ Truthful (now hints) (now statement) ⌝ }
     ensures { λ r. ⌜ r ≡ stepAt settings (now (statement .entry)) cursor ⌝ }
+    ensures { λ _. ⌜ Truthful (now (hints .exit)) (now (statement .entry)) ⌝ }
 {
     let at = cursor.at;
     if statement.len() <= at {
@@ -74,7 +92,7 @@ pub fn next_step(statement: &[u8], settings: Settings, cursor: Cursor) -> Step
     }
     let rest = &statement[at..];
     let memory = cursor.memory;
-    let Recognised::Token(piece) = next_piece(rest, settings, memory) else {
+    let Recognised::Token(piece) = next_piece(rest, settings, memory, hints) else {
         return Step::Done;
     };
     let kind = piece.kind;
@@ -89,6 +107,8 @@ pub fn next_step(statement: &[u8], settings: Settings, cursor: Cursor) -> Step
         key: place_key(at, key),
         escaped: piece.escaped,
     };
+    let dialect = settings.dialect;
+    learn(statement, at, kind, dialect, hints);
     let next = remember_piece(memory, kind, &rest[..len], alias);
     Step::Token(
         token,

@@ -9,6 +9,7 @@ use crate::stepping::at_start;
 use crate::stepping::next_step;
 use calls::Refusal;
 use calls::Settings;
+use recognisers::no_hints;
 ghost use mathlib.Core.Path.{_≡_};
 ghost use Prim.Native.Nat.{_*_, _≤_};
 ghost use lib.ListN.{length};
@@ -21,9 +22,10 @@ pub fn count_tokens(statement: &[u8], settings: Settings) -> usize
     ensures { λ r. ⌜ r ≡ length (tokens settings (now (statement .entry))) ⌝ }
 {
     let mut count = 0;
+    let mut hints = no_hints();
     let mut cursor = at_start();
     loop {
-        match next_step(statement, settings, cursor) {
+        match next_step(statement, settings, cursor, &mut hints) {
             Step::Token(_, next) => {
                 count += 1;
                 cursor = next;
@@ -43,9 +45,10 @@ fn write_tokens(statement: &[u8], settings: Settings, table: &mut [u8]) -> Total
     let mut at = 0;
     let mut escaped = 0;
     let mut level = 0;
+    let mut hints = no_hints();
     let mut cursor = at_start();
     loop {
-        match next_step(statement, settings, cursor) {
+        match next_step(statement, settings, cursor, &mut hints) {
             Step::Token(token, next) => {
                 put_record(table, at, level, token);
                 at += RECORD_BYTES;

@@ -2,20 +2,28 @@ use borrow.Author.Needs.{needs}
 use Prim.Native.Nat.{_-_}
 use lib.ListN.{length}
 use Rattle.params.proofs.Lookups.{Ahead, find-start, find-key, find-less, find-more, find-found, found-inside, find-none, none-inside}
+use Rattle.recognisers.proofs.Unclosed.{truthful-none, hint-count}
+use Rattle.tokenizer.proofs.Walks.{Going}
 use Rattle.params.proofs.looking.find.Statement.{statement}
 use Rattle.params.proofs.looking.find.Tie as tie
 
 abbrev Inv-loop : tie.InvT-loop
-Inv-loop statement settings sheet place counter ahead₀ cursor₀ ahead cursor = Ahead settings statement place ahead cursor
+Inv-loop statement settings sheet place counter ahead₀ hints₀ cursor₀ ahead hints cursor = Going hints statement (Ahead settings statement place ahead cursor)
 
 abbrev μ-loop : tie.MeasureT-loop
-μ-loop statement settings sheet place counter ahead₀ cursor₀ ahead cursor = length statement - cursor .at
+μ-loop statement settings sheet place counter ahead₀ hints₀ cursor₀ ahead hints cursor = length statement - cursor .at
+
+no-hints-requires : tie.Need-no-hints-requires Inv-loop μ-loop
+no-hints-requires c κs = search needs
 
 at-start-requires : tie.Need-at-start-requires Inv-loop μ-loop
 at-start-requires c κs = search needs
 
 loop-holds : tie.Need-loop-holds Inv-loop μ-loop
-loop-holds c = search find-start
+loop-holds c = search (truthful-none, find-start)
+
+slice-aggregate-next-step : tie.Need-slice-aggregate-next-step Inv-loop μ-loop
+slice-aggregate-next-step c = search hint-count
 
 next-step-requires : tie.Need-next-step-requires Inv-loop μ-loop
 next-step-requires c κs = search needs
@@ -53,8 +61,10 @@ find-spec =
     (tie.spec
     Inv-loop
     μ-loop
+    no-hints-requires
     at-start-requires
     loop-holds
+    slice-aggregate-next-step
     next-step-requires
     enum-known-token
     found-for-requires

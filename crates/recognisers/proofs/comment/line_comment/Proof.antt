@@ -4,23 +4,24 @@ use Rattle.recognisers.specs.Comment.{tillLineEnding}
 use Rattle.recognisers.proofs.Spelling.{word-fits, word-then, word-not}
 use Rattle.recognisers.proofs.TakenInside.{fits-more}
 use Rattle.recognisers.proofs.CommentLoops.{line-inside}
+use Rattle.recognisers.proofs.Unclosed.{truthful-part}
 use Rattle.recognisers.proofs.comment.line_comment.Statement.{statement}
 use Rattle.recognisers.proofs.comment.line_comment.Tie as tie
 
 is-spelled-requires : tie.Need-is-spelled-requires
 is-spelled-requires c κs = search needs
 
-sub-till-line-ending : tie.Need-sub-till-line-ending
-sub-till-line-ending c = search (word-fits typed tillLineEnding)
+sub-till-line-ending-known : tie.Need-sub-till-line-ending-known
+sub-till-line-ending-known c = search (word-fits typed tillLineEnding)
 
-part-till-line-ending-start : tie.Need-part-till-line-ending-start
-part-till-line-ending-start c = search (word-fits typed tillLineEnding)
+part-till-line-ending-known-start : tie.Need-part-till-line-ending-known-start
+part-till-line-ending-known-start c = search (word-fits typed tillLineEnding)
 
-part-till-line-ending-end : tie.Need-part-till-line-ending-end
-part-till-line-ending-end c = search needs
+part-till-line-ending-known-end : tie.Need-part-till-line-ending-known-end
+part-till-line-ending-known-end c = search needs
 
-till-line-ending-requires : tie.Need-till-line-ending-requires
-till-line-ending-requires c κs = search needs
+till-line-ending-known-requires : tie.Need-till-line-ending-known-requires
+till-line-ending-known-requires c κs = search truthful-part
 
 n-more-requires : tie.Need-n-more-requires
 n-more-requires c κs = search (fits-more tillLineEnding line-inside, word-fits typed tillLineEnding)
@@ -36,10 +37,10 @@ line-comment-spec =
     tie.close
     (tie.spec
     is-spelled-requires
-    sub-till-line-ending
-    part-till-line-ending-start
-    part-till-line-ending-end
-    till-line-ending-requires
+    sub-till-line-ending-known
+    part-till-line-ending-known-start
+    part-till-line-ending-known-end
+    till-line-ending-known-requires
     n-more-requires
     returns
     returns-2)

@@ -1,4 +1,5 @@
 use borrow.Author.Needs.{needs}
+use Rattle.recognisers.proofs.Unclosed.{truthful-part}
 use Rattle.recognisers.proofs.PlaceholderLaws.{braced-inside}
 use Rattle.recognisers.specs.Placeholder.{bracedText}
 use Rattle.recognisers.specs.Taking.{typed}
@@ -20,7 +21,7 @@ part-braced-text-end : tie.Need-part-braced-text-end
 part-braced-text-end c = search needs
 
 braced-text-requires : tie.Need-braced-text-requires
-braced-text-requires c κs = search needs
+braced-text-requires c κs = search truthful-part
 
 n-more-requires : tie.Need-n-more-requires
 n-more-requires c κs = search (fits-more bracedText braced-inside, word-fits typed bracedText)

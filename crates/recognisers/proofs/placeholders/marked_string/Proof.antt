@@ -1,4 +1,5 @@
 use borrow.Author.Needs.{needs}
+use Rattle.recognisers.proofs.Unclosed.{truthful-part}
 use Rattle.recognisers.proofs.PlaceholderLaws.{marked-string-then, marked-string-not, marked-string-fits}
 use Rattle.recognisers.specs.Taking.{done}
 use Rattle.recognisers.proofs.Digits.{marked-fits}
@@ -18,7 +19,7 @@ part-placeholder-string-taken-end : tie.Need-part-placeholder-string-taken-end
 part-placeholder-string-taken-end c = search needs
 
 placeholder-string-taken-requires : tie.Need-placeholder-string-taken-requires
-placeholder-string-taken-requires c κs = search needs
+placeholder-string-taken-requires c κs = search truthful-part
 
 n-more-requires : tie.Need-n-more-requires
 n-more-requires c κs = search marked-string-fits

@@ -1,4 +1,5 @@
 use borrow.Author.Needs.{needs}
+use Rattle.recognisers.proofs.Unclosed.{hint-inside, square-known}
 use Rattle.recognisers.proofs.strings.bracketed.Statement.{statement}
 use Rattle.recognisers.proofs.strings.bracketed.Tie as tie
 
@@ -11,14 +12,17 @@ enum-told-2 c = search needs
 enum-told-3 : tie.Need-enum-told-3
 enum-told-3 c = search needs
 
-slice-aggregate-quoted : tie.Need-slice-aggregate-quoted
-slice-aggregate-quoted c = search needs
+slice-aggregate-quoted-known : tie.Need-slice-aggregate-quoted-known
+slice-aggregate-quoted-known c = search needs
 
-slice-aggregate-quoted-2 : tie.Need-slice-aggregate-quoted-2
-slice-aggregate-quoted-2 c = search needs
+slice-aggregate-quoted-known-2 : tie.Need-slice-aggregate-quoted-known-2
+slice-aggregate-quoted-known-2 c = search needs
 
-quoted-requires : tie.Need-quoted-requires
-quoted-requires c κs = search needs
+shared-slice-read-quoted-known : tie.Need-shared-slice-read-quoted-known
+shared-slice-read-quoted-known c = search (needs, hint-inside)
+
+quoted-known-requires : tie.Need-quoted-known-requires
+quoted-known-requires c κs = search square-known
 
 returns : tie.Need-returns
 returns c = search needs
@@ -27,7 +31,7 @@ returns-2 : tie.Need-returns-2
 returns-2 c = search needs
 
 returns-3 : tie.Need-returns-3
-returns-3 c = rw (c .before .before .before .enum-told3 .given .1) (c .quoted .ensures)
+returns-3 c = rw (c .before .before .before .before .enum-told3 .given .1) (c .quoted-known .ensures)
 
 pub bracketed-spec : {M : Type 1} → statement M
 bracketed-spec =
@@ -36,9 +40,10 @@ bracketed-spec =
     enum-told
     enum-told-2
     enum-told-3
-    slice-aggregate-quoted
-    slice-aggregate-quoted-2
-    quoted-requires
+    slice-aggregate-quoted-known
+    slice-aggregate-quoted-known-2
+    shared-slice-read-quoted-known
+    quoted-known-requires
     returns
     returns-2
     returns-3)

@@ -1,25 +1,32 @@
 use borrow.Author.Needs.{needs}
 use Rattle.recognisers.specs.Strings.{quotedTaken}
+use Rattle.recognisers.proofs.Unclosed.{hint-inside, double-known, single-known}
 use Rattle.recognisers.proofs.strings.quoted_taken.Statement.{statement}
 use Rattle.recognisers.proofs.strings.quoted_taken.Tie as tie
 
-slice-aggregate-quoted : tie.Need-slice-aggregate-quoted
-slice-aggregate-quoted c = search needs
+slice-aggregate-quoted-known : tie.Need-slice-aggregate-quoted-known
+slice-aggregate-quoted-known c = search needs
 
-slice-aggregate-quoted-2 : tie.Need-slice-aggregate-quoted-2
-slice-aggregate-quoted-2 c = search needs
+slice-aggregate-quoted-known-2 : tie.Need-slice-aggregate-quoted-known-2
+slice-aggregate-quoted-known-2 c = search needs
 
-quoted-requires : tie.Need-quoted-requires
-quoted-requires c κs = search needs
+shared-slice-read-quoted-known : tie.Need-shared-slice-read-quoted-known
+shared-slice-read-quoted-known c = search (needs, hint-inside)
 
-slice-aggregate-quoted-3 : tie.Need-slice-aggregate-quoted-3
-slice-aggregate-quoted-3 c = search needs
+quoted-known-requires : tie.Need-quoted-known-requires
+quoted-known-requires c κs = search double-known
 
-slice-aggregate-quoted-4 : tie.Need-slice-aggregate-quoted-4
-slice-aggregate-quoted-4 c = search needs
+slice-aggregate-quoted-known-3 : tie.Need-slice-aggregate-quoted-known-3
+slice-aggregate-quoted-known-3 c = search needs
 
-quoted-requires-2 : tie.Need-quoted-requires-2
-quoted-requires-2 c κs = search needs
+slice-aggregate-quoted-known-4 : tie.Need-slice-aggregate-quoted-known-4
+slice-aggregate-quoted-known-4 c = search needs
+
+shared-slice-read-quoted-known-2 : tie.Need-shared-slice-read-quoted-known-2
+shared-slice-read-quoted-known-2 c = search (needs, hint-inside)
+
+quoted-known-requires-2 : tie.Need-quoted-known-requires-2
+quoted-known-requires-2 c κs = search single-known
 
 prefixed-taken-requires : tie.Need-prefixed-taken-requires
 prefixed-taken-requires c κs = search needs
@@ -38,12 +45,14 @@ pub quoted-taken-spec : {M : Type 1} → statement M
 quoted-taken-spec =
     tie.close
     (tie.spec
-    slice-aggregate-quoted
-    slice-aggregate-quoted-2
-    quoted-requires
-    slice-aggregate-quoted-3
-    slice-aggregate-quoted-4
-    quoted-requires-2
+    slice-aggregate-quoted-known
+    slice-aggregate-quoted-known-2
+    shared-slice-read-quoted-known
+    quoted-known-requires
+    slice-aggregate-quoted-known-3
+    slice-aggregate-quoted-known-4
+    shared-slice-read-quoted-known-2
+    quoted-known-requires-2
     prefixed-taken-requires
     first-of-requires
     first-of-requires-2

@@ -1,4 +1,5 @@
 use borrow.Author.Needs.{needs}
+use Rattle.reserved.proofs.MeasuredGaps.{same-count}
 use Rattle.reserved.proofs.PhraseWalk.{words-fit, entry-yes, entry-no, entry-fits}
 use Rattle.reserved.proofs.find.entry_end.Statement.{statement}
 use Rattle.reserved.proofs.find.entry_end.Tie as tie
@@ -27,11 +28,17 @@ n-more-requires c κs = search entry-fits
 enum-told : tie.Need-enum-told
 enum-told c = search needs
 
+same-length : tie.Need-same-length
+same-length c = search same-count
+
 returns : tie.Need-returns
-returns c = search entry-yes
+returns c = (search entry-yes, search needs)
+
+same-length-2 : tie.Need-same-length-2
+same-length-2 c = search same-count
 
 returns-2 : tie.Need-returns-2
-returns-2 c = search entry-no
+returns-2 c = (search entry-no, search needs)
 
 pub entry-end-spec : {M : Type 1} → statement M
 entry-end-spec =
@@ -45,5 +52,7 @@ entry-end-spec =
     ending-of-requires
     n-more-requires
     enum-told
+    same-length
     returns
+    same-length-2
     returns-2)

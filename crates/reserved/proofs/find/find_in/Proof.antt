@@ -1,18 +1,23 @@
 use Prim.Native.Nat.{_-_}
 use lib.ListN.{length}
 use borrow.Author.Needs.{needs}
+use Rattle.reserved.specs.Inner.Gaps.{Measured}
 use Rattle.reserved.proofs.FirstEntry.{FindAt, find-start, find-cut, find-here, find-next, find-end}
+use Rattle.reserved.proofs.MeasuredGaps.{six-gaps}
 use Rattle.reserved.proofs.find.find_in.Statement.{statement}
 use Rattle.reserved.proofs.find.find_in.Tie as tie
 
 abbrev Inv-loop : tie.InvT-loop
-Inv-loop table rest at₀ at = FindAt table rest at
+Inv-loop table rest gaps₀ at₀ gaps at = FindAt table rest at × Measured gaps rest
 
 abbrev μ-loop : tie.MeasureT-loop
-μ-loop table rest at₀ at = length table - at
+μ-loop table rest gaps₀ at₀ gaps at = length table - at
+
+no-gaps-requires : tie.Need-no-gaps-requires Inv-loop μ-loop
+no-gaps-requires c κs = search needs
 
 loop-holds : tie.Need-loop-holds Inv-loop μ-loop
-loop-holds c = search find-start
+loop-holds c = (search find-start, search needs)
 
 add-loop : tie.Need-add-loop Inv-loop μ-loop
 add-loop c = search needs
@@ -50,6 +55,9 @@ part-entry-end-start c = search needs
 part-entry-end-end : tie.Need-part-entry-end-end Inv-loop μ-loop
 part-entry-end-end c = search needs
 
+slice-aggregate-entry-end : tie.Need-slice-aggregate-entry-end Inv-loop μ-loop
+slice-aggregate-entry-end c = search six-gaps
+
 entry-end-requires : tie.Need-entry-end-requires Inv-loop μ-loop
 entry-end-requires c κs = search needs
 
@@ -66,7 +74,7 @@ loop-less : tie.Need-loop-less Inv-loop μ-loop
 loop-less c = search needs
 
 loop-again : tie.Need-loop-again Inv-loop μ-loop
-loop-again c = search find-next
+loop-again c = (search find-next, search needs)
 
 returns-3 : tie.Need-returns-3 Inv-loop μ-loop
 returns-3 c = search find-end
@@ -77,6 +85,7 @@ find-in-spec =
     (tie.spec
     Inv-loop
     μ-loop
+    no-gaps-requires
     loop-holds
     add-loop
     shared-slice-read-group
@@ -90,6 +99,7 @@ find-in-spec =
     sub-entry-end
     part-entry-end-start
     part-entry-end-end
+    slice-aggregate-entry-end
     entry-end-requires
     enum-known-len
     returns-2

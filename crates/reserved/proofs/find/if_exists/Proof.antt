@@ -1,12 +1,19 @@
 use borrow.Author.Needs.{needs}
+use Rattle.reserved.proofs.MeasuredGaps.{six-gaps}
 use Rattle.reserved.proofs.PhraseWalk.{words-fit, exists-yes, exists-no}
 use Rattle.recognisers.specs.Taking.{endOfWord}
 use Rattle.recognisers.proofs.TakenInside.{fits-more, end-of-word-inside}
 use Rattle.reserved.proofs.find.if_exists.Statement.{statement}
 use Rattle.reserved.proofs.find.if_exists.Tie as tie
 
+no-gaps-requires : tie.Need-no-gaps-requires
+no-gaps-requires c κs = search needs
+
 slice-aggregate-words-end : tie.Need-slice-aggregate-words-end
 slice-aggregate-words-end c = search needs
+
+slice-aggregate-words-end-2 : tie.Need-slice-aggregate-words-end-2
+slice-aggregate-words-end-2 c = search six-gaps
 
 words-end-requires : tie.Need-words-end-requires
 words-end-requires c κs = search needs
@@ -45,7 +52,9 @@ pub if-exists-spec : {M : Type 1} → statement M
 if-exists-spec =
     tie.close
     (tie.spec
+    no-gaps-requires
     slice-aggregate-words-end
+    slice-aggregate-words-end-2
     words-end-requires
     enum-known-n
     sub-end-of-word

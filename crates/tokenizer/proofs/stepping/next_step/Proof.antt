@@ -1,6 +1,7 @@
 use mathlib.Core.Path.{sym}
 use lib.Seq.{length-take-le}
 use borrow.Author.Needs.{needs}
+use Rattle.recognisers.proofs.Unclosed.{truthful-part}
 use Rattle.tokenizer.proofs.NextPieceSizes.{len-inside, alias-inside, key-fits, len-fits, step-token, step-past, step-nothing}
 use Rattle.tokenizer.proofs.stepping.next_step.Statement.{statement}
 use Rattle.tokenizer.proofs.stepping.next_step.Tie as tie
@@ -18,13 +19,16 @@ part-rest-end : tie.Need-part-rest-end
 part-rest-end c = search needs
 
 next-piece-requires : tie.Need-next-piece-requires
-next-piece-requires c κs = search needs
+next-piece-requires c κs = search truthful-part
 
 enum-known-piece : tie.Need-enum-known-piece
 enum-known-piece c = search needs
 
 enum-told : tie.Need-enum-told
 enum-told c = search needs
+
+same-length : tie.Need-same-length
+same-length c = search needs
 
 returns-2 : tie.Need-returns-2
 returns-2 c = search step-nothing
@@ -35,14 +39,20 @@ given-out-requires c κs = search needs
 place-key-requires : tie.Need-place-key-requires
 place-key-requires c κs = search key-fits
 
+learn-requires : tie.Need-learn-requires
+learn-requires c κs = search needs
+
 slice-aggregate-remember-piece : tie.Need-slice-aggregate-remember-piece
 slice-aggregate-remember-piece c = sym (length-take-le _ _ (search len-inside))
 
 remember-piece-requires : tie.Need-remember-piece-requires
 remember-piece-requires c κs = search alias-inside
 
-add-t14 : tie.Need-add-t14
-add-t14 c = search len-fits
+add-t16 : tie.Need-add-t16
+add-t16 c = search len-fits
+
+same-length-2 : tie.Need-same-length-2
+same-length-2 c = search needs
 
 returns-3 : tie.Need-returns-3
 returns-3 c = search step-token
@@ -58,10 +68,13 @@ next-step-spec =
     next-piece-requires
     enum-known-piece
     enum-told
+    same-length
     returns-2
     given-out-requires
     place-key-requires
+    learn-requires
     slice-aggregate-remember-piece
     remember-piece-requires
-    add-t14
+    add-t16
+    same-length-2
     returns-3)
