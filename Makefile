@@ -42,8 +42,12 @@ bench: $(build)/bench_unicode $(build)/bench_reading $(build)/bench_fill $(build
 tables: $(build)/tables
 	$(build)/tables crates/unicode
 	$(build)/tables sweep > crates/sweep/stdout
-	python3 tools/phrases.py > $(build)/phrases.rt
-	cp $(build)/phrases.rt crates/reserved/src
+	python3 tools/phrases.py phrases > $(build)/phrases.rt
+	python3 tools/phrases.py tables > $(build)/tables.rt
+	cp $(build)/phrases.rt $(build)/tables.rt crates/reserved/src
+	for file in $$(python3 tools/phrase_proofs.py files); do \
+	    python3 tools/phrase_proofs.py $$file > crates/reserved/proofs/$$file.antt; \
+	done
 	rt fmt
 
 vectors: $(patsubst tools/%_vectors.py,target/vectors/%,$(wildcard tools/*_vectors.py))

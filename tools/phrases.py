@@ -1,11 +1,13 @@
 #!/usr/bin/env python3
-"""Prints crates/reserved/src/phrases.rt, the tables of reserved phrases, from the
-lists in crates/reserved/specs.
+"""Prints crates/reserved/src/phrases.rt, the tables of reserved phrases, and
+crates/reserved/src/tables.rt, which picks one of them, from the lists in
+crates/reserved/specs.
 
-    python3 tools/phrases.py > crates/reserved/src/phrases.rt
+    python3 tools/phrases.py phrases > crates/reserved/src/phrases.rt
+    python3 tools/phrases.py tables > crates/reserved/src/tables.rt
     python3 tools/phrases.py compare
 
-The second form lays the lists of specs/ beside those of the second reading
+The third form lays the lists of specs/ beside those of the second reading
 (tools/reading.py), which were typed from the Rust by themselves, and says which
 phrases only one of them has.
 
@@ -26,9 +28,9 @@ SPECS = Path(__file__).resolve().parent.parent / "crates" / "reserved" / "specs"
 WIDTH = 100
 
 HEAD = """\
-// The reserved phrases by their first letter, in the order in which they are tried: for each its group, the length of its
-// words, and the words. Groups: T top level, D top level with IF EXISTS behind it or not, A newline after, N newline, J join,
-// I top level without indent, R reserved. Made by tools/phrases.py from the lists in specs/.
+// The reserved phrases by their first letter and the length of their first word, in the order in which they are tried: for
+// each its group, the length of its words, and the words. Groups: T top level, D top level with IF EXISTS behind it or not, A
+// newline after, N newline, J join, I top level without indent, R reserved. Made by tools/phrases.py from the lists in specs/.
 """
 
 
@@ -87,19 +89,89 @@ def encoded(entries):
     return "".join(f"{group}\\x{len(words):02X}{words}" for group, words in entries)
 
 
-def table(letter, entries):
-    """The const array of a letter's phrases, laid out as `rt fmt` does"""
-    name = "DOLLAR" if letter == "$" else letter
+def first_word(words):
+    return len(re.match(r"[A-Z0-9_]*", words).group())
+
+
+def by_letter_and_length(entries):
+    """The phrases by their first letter and the length of their first word"""
+    tables = {}
+    for entry in entries:
+        lengths = tables.setdefault(entry[1][0], {})
+        lengths.setdefault(first_word(entry[1]), []).append(entry)
+    return {letter: dict(sorted(tables[letter].items())) for letter in sorted(tables)}
+
+
+def name_of(letter):
+    return "DOLLAR" if letter == "$" else letter
+
+
+def table(name, entries):
+    """The const array of some phrases, laid out as `rt fmt` does"""
     size = sum(2 + len(words) for _, words in entries)
-    head, bytes_ = f"pub const {name}_PHRASES: [u8; {size}] =", f'*b"{encoded(entries)}";'
+    head, bytes_ = f"pub const {name}: [u8; {size}] =", f'*b"{encoded(entries)}";'
     gap = " " if len(head) + 1 + len(bytes_) <= WIDTH else "\n    "
     return f"\n{head}{gap}{bytes_}\n"
 
 
 def printed(entries):
-    letters = sorted({words[0] for _, words in entries})
-    tables = [table(letter, [entry for entry in entries if entry[1][0] == letter]) for letter in letters]
-    return HEAD + "".join(tables)
+    tables = by_letter_and_length(entries).items()
+    return HEAD + "".join(
+        table(f"{name_of(letter)}_{length}", some) for letter, lengths in tables for length, some in lengths.items()
+    )
+
+
+TABLES_HEAD = """\
+// One decision on the first letter and one on the first word's length pick the table in which a phrase is looked for. Made by
+// tools/phrases.py from the lists in specs/.
+use crate::find::find_in;
+use crate::phrases;
+use recognisers::capital_of;
+ghost use mathlib.Core.Path.{_≡_};
+ghost use Rattle.reserved.specs.Inner.Entries.{lengthOf, groupOf, entries, entriesOf, findEntry};
+ghost use Rattle.recognisers.specs.Inner.WordLength.{wordLength};
+"""
+
+OF_A_LETTER = """
+fn find_NAME(rest: &[u8], n: usize, found: &mut u8) -> usize
+    requires { ⌜ n ≡ wordLength (now rest) ⌝ }
+    ensures { λ r. ⌜ r ≡ lengthOf (findEntry (entriesOf LETTER entries) (now (rest .entry))) ⌝ }
+    ensures { λ _. ⌜ now (found .exit) ≡ groupOf (now (found .entry)) (findEntry (entriesOf LETTER entries) (now (rest .entry))) ⌝ }
+{
+    match n {
+ARMS        _ => 0,
+    }
+}
+"""
+
+OF_ALL = """
+// The first phrase that stands at the start of the rest: how many bytes it takes, or 0. Its group's letter is written to `found`.
+pub fn find_phrase(rest: &[u8], n: usize, found: &mut u8) -> usize
+    requires { ⌜ n ≡ wordLength (now rest) ⌝ }
+    ensures { λ r. ⌜ r ≡ lengthOf (findEntry entries (now (rest .entry))) ⌝ }
+    ensures { λ _. ⌜ now (found .exit) ≡ groupOf (now (found .entry)) (findEntry entries (now (rest .entry))) ⌝ }
+{
+    if rest.len() == 0 {
+        return 0;
+    }
+    let letter = capital_of(rest[0]);
+    match letter {
+ARMS        0..=35 | 37..=64 | 90..=255 => 0,
+    }
+}
+"""
+
+
+def printed_tables(entries):
+    tables = by_letter_and_length(entries)
+    text = TABLES_HEAD
+    for letter, lengths in tables.items():
+        name = name_of(letter)
+        arms = "".join(f"        {n} => find_in(&phrases::{name}_{n}, rest, found),\n" for n in lengths)
+        filled = OF_A_LETTER.replace("NAME", name.lower()).replace("LETTER", str(ord(letter)))
+        text += filled.replace("ARMS", arms)
+    arms = "".join(f"        b'{letter}' => find_{name_of(letter).lower()}(rest, n, found),\n" for letter in tables)
+    return text + OF_ALL.replace("ARMS", arms)
 
 
 # The second reading's phrases, by the letter of their group
@@ -126,11 +198,15 @@ def compare(entries):
     return ours == theirs
 
 
+PRINTERS = {"phrases": printed, "tables": printed_tables}
+
+
 def main(arguments):
     entries = Lists().entries()
     if arguments == ["compare"]:
         sys.exit(not compare(entries))
-    print(printed(entries), end="")
+    (form,) = arguments
+    print(PRINTERS[form](entries), end="")
 
 
 if __name__ == "__main__":

@@ -1,7 +1,7 @@
 -- Loops over the bytes at the start of a rest.
 -- Assumes nothing.
 use Prim.Native.Nat.{ℕ, zero, suc, _+_, _≤_, _<_, min, zero-le, suc-le-suc}
-use native.Mathlib.Nat.{le-trans, add-zero, zero-add, add-suc, suc-add, min-zero, zero-min, suc-min-suc, min-eq-left}
+use native.Mathlib.Nat.{suc-inj, le-of-suc-le-suc, not-suc-le-zero, add-zero, zero-add, add-suc, suc-add, min-zero, zero-min, suc-min-suc, min-le-left}
 use native.Mathlib.Numerals.{add-one}
 use native.Mathlib.Omega.{arith}
 use mathlib.Core.Path.{_≡_, refl, sym, ap, _∙_}
@@ -9,8 +9,8 @@ use mathlib.Core.List.{List, [], _∷_}
 use mathlib.Core.Bool.{Bool, true, false, cond}
 use lib.ListN.{length, take, drop, getD, drop-of-length-le}
 use lib.Seq.{drop-cons, length-take-le}
-use lib.Dec.{eqb}
-use borrow.Author.Tests.{eq-eqb, ne-eqb}
+use lib.Dec.{leb, eqb}
+use borrow.Author.Tests.{le-leb, eq-eqb, ne-eqb}
 use Rattle.recognisers.specs.Taking.{count, contains, startsWith}
 
 -- ---- how many pass a test
@@ -35,15 +35,43 @@ count-take test (suc n) (b ∷ s) = go (test b) (count-take test n s)
     go true h = ap suc h ∙ sym (suc-min-suc (count test s) n)
     go false h = sym (zero-min (suc n))
 
-pub five-long : (s : List ℕ) → 5 ≤ length s → _≡_ {A = ℕ} 5 (length (take 5 s))
-five-long s h = sym (length-take-le 5 s h)
+pub first-long : (k : ℕ) (s : List ℕ) → k ≤ length s → k ≡ length (take k s)
+first-long k s h = sym (length-take-le k s h)
 
-module _ (test : ℕ → Bool) (s : List ℕ) (n : ℕ) where
-  pub count-first : n ≡ count test (take 5 s) → n ≡ min (count test s) 5
-  count-first e = e ∙ count-take test 5 s
+-- the first few of them
+module _ (k : ℕ) (s : List ℕ) (n : ℕ) (e : n ≡ min (length s) k) where
+  pub few-long : n ≡ length (take n s)
+  few-long = first-long n s (rw e (min-le-left (length s) k))
 
-  pub count-few : length s < 5 → n ≡ count test s → n ≡ min (count test s) 5
-  count-few h e = e ∙ sym (min-eq-left (le-trans (count-inside test s) (omega arith)))
+  pub count-few : (test : ℕ → Bool) (r : ℕ) → r ≡ count test (take n s) → r ≡ min (count test s) k
+  count-few test r f = f ∙ (count-take test n s ∙ (let h = count-inside test s in let z : min (count test s) n ≡ min (count test s) k = omega arith in z))
+
+-- whether there is one
+module _ (test : ℕ → Bool) where
+  pub none-counted : (s : List ℕ) → length s ≡ 0 → false ≡ leb 1 (count test s)
+  unfolding count
+  none-counted [] e = refl
+  none-counted (b ∷ s) e = absurd (let z : ⊥ = omega arith in z)
+
+  pub first-counted : (s : List ℕ) (r : Bool) → (length s ≡ 0 → ⊥) → r ≡ test (getD s 0 0) → r ≡ leb 1 (count test s)
+  unfolding count
+  first-counted [] r n e = absurd (n refl)
+  first-counted (b ∷ s) r n e = e ∙ go (test b)
+    where
+      go : (t : Bool) → t ≡ leb 1 (cond t (suc (count test s)) 0)
+      go true = sym (le-leb 1 (suc (count test s)) (suc-le-suc zero-le))
+      go false = refl
+
+  -- where the count stops, none passes
+  pub stopped : (s : List ℕ) (n : ℕ) → n ≡ count test s → n < length s → test (getD s n 0) ≡ false
+  unfolding count
+  stopped [] n e h = absurd (not-suc-le-zero h)
+  stopped (b ∷ s) n e h = go (test b) refl n e h (stopped s)
+    where
+      go : (t : Bool) → test b ≡ t → (m : ℕ) → m ≡ cond t (suc (count test s)) 0 → m < suc (length s) → ((k : ℕ) → k ≡ count test s → k < length s → test (getD s k 0) ≡ false) → test (getD (b ∷ s) m 0) ≡ false
+      go true q zero e h ih = absurd (let z : ⊥ = omega arith in z)
+      go true q (suc m) e h ih = ih m (suc-inj e) (le-of-suc-le-suc h)
+      go false q m e h ih = rw e q
 
 module _ (test : ℕ → Bool) where
   -- the loop stands at i

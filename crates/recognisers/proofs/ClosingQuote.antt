@@ -11,6 +11,7 @@ use lib.ListN.{length, drop, take, getD, drop-of-length-le, length-drop}
 use lib.Seq.{drop-cons}
 use lib.Dec.{eqb}
 use borrow.Author.Tests.{eq-eqb, ne-eqb}
+use Rattle.unicode.proofs.Rests.{part-end}
 use Rattle.recognisers.specs.declared.Taken.{Taken}
 use Rattle.recognisers.specs.declared.Taken.the-variants.{Bytes, Fails}
 use Rattle.recognisers.specs.Taking.{Taker, taken, more, typed, isSpelled, spelled, contains, startsWith}
@@ -100,6 +101,19 @@ module _ (d : ℕ) (esc : List ℕ) where
           let j : suc n ≤ length s = le-trans (omega arith) (rw m at k) in
           rw q (omega arith)
       go Fails q = rw q (omega arith)
+
+  -- behind an opener of one byte
+  module _ (s : List ℕ) where
+    pub behind-none : length s ≡ 0 → Fails ≡ more 1 (closedBy d esc (drop 1 s))
+    unfolding closedBy takeTillEscaping
+    behind-none e = let h : length s ≤ 1 = omega arith in rw (drop-of-length-le s h)
+
+    module _ (t : Taken) (e : t ≡ closedBy d esc (take (length s - 1) (drop 1 s))) where
+      pub behind-fits : (length s ≡ 0 → ⊥) → length s < 2 ^ 64 → 1 + taken t < 2 ^ 64
+      behind-fits n f = fits-more (closedBy d esc) quoted-inside s 1 t e (omega arith) f
+
+      pub behind-one : (q : Taken) → q ≡ more 1 t → q ≡ more 1 (closedBy d esc (drop 1 s))
+      behind-one q f = f ∙ rw (e, part-end s 1)
 
   module _ (w s : List ℕ) (r : Bool) (e : r ≡ isSpelled typed w s) where
     pub quoted-yes : (t q : Taken) → r ≡ true → t ≡ closedBy d esc (take (length s - length w) (drop (length w) s)) → q ≡ more (length w) t → q ≡ spelled typed w (closedBy d esc) s

@@ -1,6 +1,10 @@
 -- Laws that the proofs cite.
 pub mod ByteLoops
 pub mod OrderedChoice
+pub mod FirstBytes
+pub mod PlaceholderOrder
+pub mod WordRuns
+pub mod Halves
 pub mod Spelling
 pub mod SameBytes
 pub mod TakenInside
@@ -9,6 +13,7 @@ pub mod CommentLoops
 pub mod ClosingQuote
 pub mod EscapedQuotes
 pub mod Unclosed
+pub mod StringOpeners
 pub mod Blanks
 pub mod Digits
 pub mod PlaceholderLaws

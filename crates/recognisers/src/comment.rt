@@ -4,11 +4,11 @@ use crate::Taken;
 use crate::TokenKind;
 use crate::hints::LINE;
 use crate::hints::LONE;
-use crate::scan::first_recognised;
 use crate::scan::is_spelled;
 use crate::scan::n_more;
 use crate::scan::pair_stands_at;
 use crate::scan::stands_at;
+use crate::scan::starts_among;
 use crate::scan::token_of;
 ghost use mathlib.Core.Path.{_≡_};
 ghost use Rattle.recognisers.specs.Taking.{literal};
@@ -84,12 +84,26 @@ fn block_comment(rest: &[u8], mark: &[u8]) -> Taken
     Taken::Fails
 }
 
+// By the first byte of its mark.
+fn try_comment(rest: &[u8], hints: &[usize]) -> Recognised
+    requires { ⌜ Truthful (now hints) (now rest) ⌝ }
+    ensures { λ r. ⌜ r ≡ getCommentToken (now (rest .entry)) ⌝ }
+{
+    if stands_at(rest, 0, b'#') {
+        return token_of(TokenKind::LineComment, line_comment(rest, b"#", hints));
+    }
+    if stands_at(rest, 0, b'-') {
+        return token_of(TokenKind::LineComment, line_comment(rest, b"--", hints));
+    }
+    token_of(TokenKind::BlockComment, block_comment(rest, b"/*"))
+}
+
 pub fn get_comment_token(rest: &[u8], hints: &[usize]) -> Recognised
     requires { ⌜ Truthful (now hints) (now rest) ⌝ }
     ensures { λ r. ⌜ r ≡ getCommentToken (now (rest .entry)) ⌝ }
 {
-    let hash = token_of(TokenKind::LineComment, line_comment(rest, b"#", hints));
-    let dashes = token_of(TokenKind::LineComment, line_comment(rest, b"--", hints));
-    let block = token_of(TokenKind::BlockComment, block_comment(rest, b"/*"));
-    first_recognised(hash, first_recognised(dashes, block))
+    if starts_among(rest, b"#-/") {
+        return try_comment(rest, hints);
+    }
+    Recognised::Nothing
 }

@@ -4,7 +4,6 @@ use crate::scan::starts_among;
 use crate::strings::escaped_at;
 ghost use mathlib.Core.Path.{_≡_};
 ghost use mathlib.Core.Bool.{false};
-ghost use lib.ListN.{drop};
 ghost use Rattle.recognisers.specs.Strings.{pairsPassed, pairsBehind, pairsIn, stringPairs};
 ghost use Rattle.recognisers.specs.Placeholder.{stringNamedPairs};
 

@@ -1,5 +1,5 @@
 // The recognisers of src/tokenizer.rs that look at the text alone, each under its Rust name. A recogniser gets the rest of the
-// statement from the present token on.
+// statement from the present token on, and asks its first byte before it tries: most of them few bytes can begin.
 mod comment;
 mod comparing;
 mod escaped_quotes;
@@ -23,14 +23,17 @@ pub use learning::learn_opener;
 pub use numbers::get_number_token;
 pub use parens::get_close_paren_token;
 pub use parens::get_open_paren_token;
+pub use placeholders::get_braced_named_placeholder_token;
 pub use placeholders::get_placeholder_token;
 pub use scan::capital_of;
 pub use scan::end_of_word;
-pub use scan::first_recognised;
+pub use scan::is_among;
+pub use scan::is_capital;
 pub use scan::is_spelled;
 pub use scan::n_more;
 pub use scan::stands_at;
 pub use scan::token_of;
+pub use scan::word_length;
 pub use strings::get_string_token;
 pub use type_specifier::get_type_specifier_token;
 pub use words::get_any_other_char;

@@ -7,7 +7,9 @@ use crate::scan::count_digits;
 use crate::scan::first_of;
 use crate::scan::is_spelled;
 use crate::scan::n_more;
+use crate::scan::stands_at;
 use crate::scan::starts_among;
+use crate::scan::starts_with_digit;
 use crate::scan::token_of;
 ghost use mathlib.Core.Path.{_≡_};
 ghost use Rattle.recognisers.specs.Taking.{done, one, literal, digit1, digit0, contains};
@@ -126,10 +128,13 @@ fn scientific_notation(rest: &[u8]) -> Taken
 fn unsigned_number(rest: &[u8]) -> Taken
     ensures { λ r. ⌜ r ≡ unsigned (now (rest .entry)) ⌝ }
 {
-    first_of(
-        scientific_notation(rest),
-        first_of(decimal_number(rest), digits(rest)),
-    )
+    if starts_with_digit(rest) {
+        return first_of(
+            scientific_notation(rest),
+            first_of(decimal_number(rest), digits(rest)),
+        );
+    }
+    Taken::Fails
 }
 
 fn negative_number(rest: &[u8], sign: &[u8]) -> Taken
@@ -142,11 +147,20 @@ fn negative_number(rest: &[u8], sign: &[u8]) -> Taken
     Taken::Fails
 }
 
+fn try_number(rest: &[u8]) -> Recognised
+    ensures { λ r. ⌜ r ≡ getNumberToken (now (rest .entry)) ⌝ }
+{
+    if stands_at(rest, 0, b'-') {
+        return token_of(TokenKind::Number, negative_number(rest, b"-"));
+    }
+    token_of(TokenKind::Number, unsigned_number(rest))
+}
+
 pub fn get_number_token(rest: &[u8]) -> Recognised
     ensures { λ r. ⌜ r ≡ getNumberToken (now (rest .entry)) ⌝ }
 {
-    token_of(
-        TokenKind::Number,
-        first_of(negative_number(rest, b"-"), unsigned_number(rest)),
-    )
+    if starts_among(rest, b"-0123456789") {
+        return try_number(rest);
+    }
+    Recognised::Nothing
 }

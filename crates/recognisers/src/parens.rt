@@ -8,6 +8,8 @@ use crate::scan::exactly;
 use crate::scan::first_of;
 use crate::scan::is_spelled_caseless;
 use crate::scan::n_more;
+use crate::scan::stands_at;
+use crate::scan::starts_among;
 use crate::scan::token_of;
 use unicode::Class;
 ghost use mathlib.Core.Path.{_≡_};
@@ -24,15 +26,25 @@ fn square(rest: &[u8], bracket: &[u8], dialect: Dialect) -> Taken
     }
 }
 
+fn try_open_paren(rest: &[u8], dialect: Dialect) -> Recognised
+    ensures { λ r. ⌜ r ≡ getOpenParenToken dialect (now (rest .entry)) ⌝ }
+{
+    if stands_at(rest, 0, b'[') {
+        return token_of(TokenKind::OpenParen, square(rest, b"[", dialect));
+    }
+    token_of(
+        TokenKind::OpenParen,
+        first_of(exactly(rest, b"("), caseless_word(rest, b"CASE")),
+    )
+}
+
 pub fn get_open_paren_token(rest: &[u8], dialect: Dialect) -> Recognised
     ensures { λ r. ⌜ r ≡ getOpenParenToken dialect (now (rest .entry)) ⌝ }
 {
-    let round = exactly(rest, b"(");
-    let part = first_of(
-        round,
-        first_of(square(rest, b"[", dialect), caseless_word(rest, b"CASE")),
-    );
-    token_of(TokenKind::OpenParen, part)
+    if starts_among(rest, b"([Cc") {
+        return try_open_paren(rest, dialect);
+    }
+    Recognised::Nothing
 }
 
 // Whitespace, one character at least, and then a word in capitals.
@@ -56,11 +68,21 @@ fn end_case(rest: &[u8], end: &[u8], case: &[u8]) -> Taken
     Taken::Fails
 }
 
+fn try_close_paren(rest: &[u8], dialect: Dialect) -> Recognised
+    ensures { λ r. ⌜ r ≡ getCloseParenToken dialect (now (rest .entry)) ⌝ }
+{
+    if stands_at(rest, 0, b']') {
+        return token_of(TokenKind::CloseParen, square(rest, b"]", dialect));
+    }
+    let words = first_of(end_case(rest, b"END", b"CASE"), caseless_word(rest, b"END"));
+    token_of(TokenKind::CloseParen, first_of(exactly(rest, b")"), words))
+}
+
 pub fn get_close_paren_token(rest: &[u8], dialect: Dialect) -> Recognised
     ensures { λ r. ⌜ r ≡ getCloseParenToken dialect (now (rest .entry)) ⌝ }
 {
-    let round = exactly(rest, b")");
-    let words = first_of(end_case(rest, b"END", b"CASE"), caseless_word(rest, b"END"));
-    let part = first_of(round, first_of(square(rest, b"]", dialect), words));
-    token_of(TokenKind::CloseParen, part)
+    if starts_among(rest, b")]Ee") {
+        return try_close_paren(rest, dialect);
+    }
+    Recognised::Nothing
 }

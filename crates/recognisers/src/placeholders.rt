@@ -20,11 +20,13 @@ use crate::scan::starts_among;
 use crate::strings::placeholder_string_taken;
 use unicode::Class;
 ghost use mathlib.Core.Path.{_≡_};
-ghost use mathlib.Core.Bool.{true, false};
+ghost use mathlib.Core.Bool.{false, not, cond, _&&_};
 ghost use Prim.Native.Nat.{_-_, _≤_};
 ghost use lib.ListN.{length};
-ghost use Rattle.recognisers.specs.Taking.{one, literal, contains};
+ghost use Rattle.recognisers.specs.Taking.{one, literal, contains, startsWith};
+ghost use Rattle.recognisers.specs.Text.{byte};
 ghost use Rattle.recognisers.specs.Pieces.{alt};
+ghost use Rattle.recognisers.specs.declared.Recognised.the-variants.{Nothing};
 ghost use Rattle.recognisers.specs.Strings.{placeholderStringTaken};
 ghost use Rattle.recognisers.specs.Placeholder.{numberOf, indexed, indexedKey, indexedTaken, getIndexedPlaceholderToken, placeholderName, identTaken, getIdentNamedPlaceholderToken, throughBrace, bracedText, bracedTaken, getBracedNamedPlaceholderToken, hasEscape, stringKey, stringNamedTaken, getStringNamedPlaceholderToken, getPlaceholderToken};
 ghost use Rattle.recognisers.specs.Inner.Known.{Truthful};
@@ -290,65 +292,49 @@ pub fn get_string_named_placeholder_token(
     }
 }
 
+// An index, where it comes before a name: always with places first, else behind `?`, where no name can stand.
+fn index_before_name(rest: &[u8], named: bool) -> Recognised
+    ensures { λ r. ⌜ r ≡ cond (named && not (startsWith (byte "?") (now (rest .entry)))) Nothing (getIndexedPlaceholderToken (now (rest .entry))) ⌝ }
+{
+    if named {
+        if stands_at(rest, 0, b'?') {
+            return get_indexed_placeholder_token(rest);
+        }
+        return Recognised::Nothing;
+    }
+    get_indexed_placeholder_token(rest)
+}
+
+fn name_or_string(rest: &[u8], dialect: Dialect, hints: &[usize]) -> Recognised
+    requires { ⌜ Truthful (now hints) (now rest) ⌝ }
+    ensures { λ r. ⌜ r ≡ alt (getIdentNamedPlaceholderToken (now (rest .entry))) (getStringNamedPlaceholderToken dialect (now (rest .entry))) ⌝ }
+{
+    match get_ident_named_placeholder_token(rest) {
+        Recognised::Token(piece) => Recognised::Token(piece),
+        Recognised::Nothing => get_string_named_placeholder_token(rest, dialect, hints),
+    }
+}
+
 // Each alternative is tried only where those before it recognise nothing: `$1$1..` would be one long name.
-fn index_or_braces(rest: &[u8], hints: &[usize]) -> Recognised
+fn without_braces(rest: &[u8], named: bool, dialect: Dialect, hints: &[usize]) -> Recognised
     requires { ⌜ Truthful (now hints) (now rest) ⌝ }
-    ensures { λ r. ⌜ r ≡ alt (getIndexedPlaceholderToken (now (rest .entry))) (getBracedNamedPlaceholderToken (now (rest .entry))) ⌝ }
+    requires { ⌜ startsWith (byte "{") (now rest) ≡ false ⌝ }
+    ensures { λ r. ⌜ r ≡ getPlaceholderToken named dialect (now (rest .entry)) ⌝ }
 {
-    match get_indexed_placeholder_token(rest) {
+    match index_before_name(rest, named) {
         Recognised::Token(piece) => Recognised::Token(piece),
-        Recognised::Nothing => get_braced_named_placeholder_token(rest, hints),
+        Recognised::Nothing => name_or_string(rest, dialect, hints),
     }
 }
 
-fn string_then_index(rest: &[u8], dialect: Dialect, hints: &[usize]) -> Recognised
+fn try_placeholder(rest: &[u8], named: bool, dialect: Dialect, hints: &[usize]) -> Recognised
     requires { ⌜ Truthful (now hints) (now rest) ⌝ }
-    ensures { λ r. ⌜ r ≡ alt (getStringNamedPlaceholderToken dialect (now (rest .entry))) (alt (getIndexedPlaceholderToken (now (rest .entry))) (getBracedNamedPlaceholderToken (now (rest .entry)))) ⌝ }
+    ensures { λ r. ⌜ r ≡ getPlaceholderToken named dialect (now (rest .entry)) ⌝ }
 {
-    match get_string_named_placeholder_token(rest, dialect, hints) {
-        Recognised::Token(piece) => Recognised::Token(piece),
-        Recognised::Nothing => index_or_braces(rest, hints),
+    if stands_at(rest, 0, b'{') {
+        return get_braced_named_placeholder_token(rest, hints);
     }
-}
-
-fn names_first(rest: &[u8], dialect: Dialect, hints: &[usize]) -> Recognised
-    requires { ⌜ Truthful (now hints) (now rest) ⌝ }
-    ensures { λ r. ⌜ r ≡ getPlaceholderToken true dialect (now (rest .entry)) ⌝ }
-{
-    match get_ident_named_placeholder_token(rest) {
-        Recognised::Token(piece) => Recognised::Token(piece),
-        Recognised::Nothing => string_then_index(rest, dialect, hints),
-    }
-}
-
-fn string_or_braces(rest: &[u8], dialect: Dialect, hints: &[usize]) -> Recognised
-    requires { ⌜ Truthful (now hints) (now rest) ⌝ }
-    ensures { λ r. ⌜ r ≡ alt (getStringNamedPlaceholderToken dialect (now (rest .entry))) (getBracedNamedPlaceholderToken (now (rest .entry))) ⌝ }
-{
-    match get_string_named_placeholder_token(rest, dialect, hints) {
-        Recognised::Token(piece) => Recognised::Token(piece),
-        Recognised::Nothing => get_braced_named_placeholder_token(rest, hints),
-    }
-}
-
-fn ident_then_string(rest: &[u8], dialect: Dialect, hints: &[usize]) -> Recognised
-    requires { ⌜ Truthful (now hints) (now rest) ⌝ }
-    ensures { λ r. ⌜ r ≡ alt (getIdentNamedPlaceholderToken (now (rest .entry))) (alt (getStringNamedPlaceholderToken dialect (now (rest .entry))) (getBracedNamedPlaceholderToken (now (rest .entry)))) ⌝ }
-{
-    match get_ident_named_placeholder_token(rest) {
-        Recognised::Token(piece) => Recognised::Token(piece),
-        Recognised::Nothing => string_or_braces(rest, dialect, hints),
-    }
-}
-
-fn places_first(rest: &[u8], dialect: Dialect, hints: &[usize]) -> Recognised
-    requires { ⌜ Truthful (now hints) (now rest) ⌝ }
-    ensures { λ r. ⌜ r ≡ getPlaceholderToken false dialect (now (rest .entry)) ⌝ }
-{
-    match get_indexed_placeholder_token(rest) {
-        Recognised::Token(piece) => Recognised::Token(piece),
-        Recognised::Nothing => ident_then_string(rest, dialect, hints),
-    }
+    without_braces(rest, named, dialect, hints)
 }
 
 pub fn get_placeholder_token(
@@ -360,8 +346,8 @@ pub fn get_placeholder_token(
     requires { ⌜ Truthful (now hints) (now rest) ⌝ }
     ensures { λ r. ⌜ r ≡ getPlaceholderToken named dialect (now (rest .entry)) ⌝ }
 {
-    if named {
-        return names_first(rest, dialect, hints);
+    if starts_among(rest, b"?@:${") {
+        return try_placeholder(rest, named, dialect, hints);
     }
-    places_first(rest, dialect, hints)
+    Recognised::Nothing
 }

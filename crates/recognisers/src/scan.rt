@@ -6,11 +6,13 @@ use crate::Taken;
 use crate::TokenKind;
 ghost use mathlib.Core.Path.{_≡_};
 ghost use Prim.Native.Nat.{_+_, _^_, _<_};
-ghost use lib.Dec.{eqb};
+ghost use lib.Dec.{leb, eqb};
 ghost use mathlib.Core.Bool.{_&&_};
 ghost use lib.ListN.{length, drop};
+ghost use Rattle.unicode.specs.Ranges.{within};
 ghost use Rattle.recognisers.specs.Taking.{taken, more, or, done, literal, caseless, typed, capital, isSpelled, endOfWord, isDigit, count, atLeast, contains, startsWith, startsAmong};
-ghost use Rattle.recognisers.specs.Pieces.{tokenOf, alt};
+ghost use Rattle.recognisers.specs.Pieces.{tokenOf};
+ghost use Rattle.recognisers.specs.Inner.WordLength.{wordLength};
 
 pub fn is_among(bytes: &[u8], b: u8) -> bool
     ensures { λ r. ⌜ r ≡ contains (now (bytes .entry)) b ⌝ }
@@ -72,6 +74,12 @@ pub fn capital_of(b: u8) -> u8
     b
 }
 
+pub fn is_capital(b: u8) -> bool
+    ensures { λ r. ⌜ r ≡ within 65 90 b ⌝ }
+{
+    0x41 <= b && b <= 0x5A
+}
+
 fn capital_is(b: u8, w: u8) -> bool
     ensures { λ r. ⌜ r ≡ eqb (capital b) w ⌝ }
 {
@@ -102,12 +110,36 @@ fn is_digit(b: u8) -> bool
     0x30 <= b && b <= 0x39
 }
 
+pub fn starts_with_digit(rest: &[u8]) -> bool
+    ensures { λ r. ⌜ r ≡ leb 1 (count isDigit (now (rest .entry))) ⌝ }
+{
+    if rest.len() == 0 {
+        return false;
+    }
+    is_digit(rest[0])
+}
+
 pub fn count_digits(rest: &[u8]) -> usize
     ensures { λ r. ⌜ r ≡ count isDigit (now (rest .entry)) ⌝ }
 {
     let mut i = 0;
     while i < rest.len() {
         if is_digit(rest[i]) {
+            i += 1;
+        } else {
+            return i;
+        }
+    }
+    i
+}
+
+// How many ASCII word characters stand at the start.
+pub fn word_length(rest: &[u8]) -> usize
+    ensures { λ r. ⌜ r ≡ wordLength (now (rest .entry)) ⌝ }
+{
+    let mut i = 0;
+    while i < rest.len() {
+        if unicode::is_ascii_word(rest[i]) {
             i += 1;
         } else {
             return i;
@@ -199,14 +231,5 @@ pub fn token_of(kind: TokenKind, t: Taken) -> Recognised
             escaped: 0,
         }),
         Taken::Fails => Recognised::Nothing,
-    }
-}
-
-pub fn first_recognised(a: Recognised, b: Recognised) -> Recognised
-    ensures { λ r. ⌜ r ≡ alt a b ⌝ }
-{
-    match a {
-        Recognised::Token(piece) => Recognised::Token(piece),
-        Recognised::Nothing => b,
     }
 }

@@ -14,13 +14,14 @@ use crate::scan::is_among;
 use crate::scan::is_spelled;
 use crate::scan::n_more;
 use crate::scan::stands_at;
+use crate::scan::starts_among;
 ghost use mathlib.Core.Path.{_≡_};
-ghost use mathlib.Core.Bool.{false, _&&_};
+ghost use mathlib.Core.Bool.{true, false, _&&_};
 ghost use Prim.Native.Nat.{_+_, _<_};
 ghost use lib.ListN.{length, drop, getD};
 ghost use Rattle.recognisers.specs.Text.{byte, bytes};
-ghost use Rattle.recognisers.specs.Taking.{or, literal, contains, startsWith};
-ghost use Rattle.recognisers.specs.Strings.{takeTillEscaping, closedBy, inSQLServer, hexTaken, quotedTaken, stringTaken, getStringToken, placeholderQuotedTaken, placeholderStringTaken};
+ghost use Rattle.recognisers.specs.Taking.{more, or, literal, contains, startsWith};
+ghost use Rattle.recognisers.specs.Strings.{takeTillEscaping, closedBy, inSQLServer, hexTaken, stringTaken, getStringToken, placeholderStringTaken};
 ghost use Rattle.recognisers.specs.Inner.Known.{Known, Truthful};
 
 // An escape stands at i, and the desired byte behind it.
@@ -92,25 +93,26 @@ fn closed_by_known(rest: &[u8], desired: u8, escapes: &[u8], known: usize) -> Ta
     n_more(1, take_till_escaping_known(rest, desired, escapes, known))
 }
 
-fn quoted_known(rest: &[u8], opener: &[u8], desired: u8, escapes: &[u8], known: usize) -> Taken
+// Behind an opener of one byte.
+fn quoted_known(rest: &[u8], desired: u8, escapes: &[u8], known: usize) -> Taken
     requires { ⌜ Known desired (now escapes) (now rest) known ⌝ }
-    ensures { λ r. ⌜ r ≡ literal (now (opener .entry)) (closedBy desired (now (escapes .entry))) (now (rest .entry)) ⌝ }
+    ensures { λ r. ⌜ r ≡ more 1 (closedBy desired (now (escapes .entry)) (drop 1 (now (rest .entry)))) ⌝ }
 {
-    if is_spelled(rest, opener) {
-        let n = opener.len();
-        return n_more(n, closed_by_known(&rest[n..], desired, escapes, known));
+    if rest.len() == 0 {
+        return Taken::Fails;
     }
-    Taken::Fails
+    n_more(1, closed_by_known(&rest[1..], desired, escapes, known))
 }
 
 fn bracketed(rest: &[u8], dialect: Dialect, hints: &[usize]) -> Taken
     requires { ⌜ Truthful (now hints) (now rest) ⌝ }
+    requires { ⌜ startsWith (byte "[") (now rest) ≡ true ⌝ }
     ensures { λ r. ⌜ r ≡ inSQLServer dialect (literal (bytes "[") (closedBy (byte "]") (bytes "]"))) (now (rest .entry)) ⌝ }
 {
     match dialect {
         Dialect::Generic => Taken::Fails,
         Dialect::PostgreSql => Taken::Fails,
-        Dialect::SQLServer => quoted_known(rest, b"[", b']', b"]", hints[SQUARE]),
+        Dialect::SQLServer => quoted_known(rest, b']', b"]", hints[SQUARE]),
     }
 }
 
@@ -132,25 +134,30 @@ fn prefixed_taken(rest: &[u8]) -> Taken
     first_of(national, first_of(escape, hex_taken(rest)))
 }
 
-fn quoted_taken(rest: &[u8], hints: &[usize]) -> Taken
-    requires { ⌜ Truthful (now hints) (now rest) ⌝ }
-    ensures { λ r. ⌜ r ≡ quotedTaken (now (rest .entry)) ⌝ }
-{
-    let double = quoted_known(rest, b"\"", b'"', b"\"\\", hints[DOUBLE]);
-    let single = quoted_known(rest, b"'", b'\'', b"'\\", hints[SINGLE]);
-    first_of(double, first_of(single, prefixed_taken(rest)))
-}
-
+// By the opener's first byte.
 fn string_taken(rest: &[u8], dialect: Dialect, hints: &[usize]) -> Taken
     requires { ⌜ Truthful (now hints) (now rest) ⌝ }
     ensures { λ r. ⌜ r ≡ stringTaken dialect (now (rest .entry)) ⌝ }
 {
-    let tick = quoted(rest, b"`", b'`', b"`");
-    let bracket = bracketed(rest, dialect, hints);
-    first_of(tick, first_of(bracket, quoted_taken(rest, hints)))
+    if stands_at(rest, 0, b'\'') {
+        return quoted_known(rest, b'\'', b"'\\", hints[SINGLE]);
+    }
+    if stands_at(rest, 0, b'"') {
+        return quoted_known(rest, b'"', b"\"\\", hints[DOUBLE]);
+    }
+    if stands_at(rest, 0, b'`') {
+        return quoted(rest, b"`", b'`', b"`");
+    }
+    if stands_at(rest, 0, b'[') {
+        return bracketed(rest, dialect, hints);
+    }
+    if stands_at(rest, 1, b'\'') {
+        return prefixed_taken(rest);
+    }
+    Taken::Fails
 }
 
-pub fn get_string_token(rest: &[u8], dialect: Dialect, hints: &[usize]) -> Recognised
+fn try_string(rest: &[u8], dialect: Dialect, hints: &[usize]) -> Recognised
     requires { ⌜ Truthful (now hints) (now rest) ⌝ }
     ensures { λ r. ⌜ r ≡ getStringToken dialect (now (rest .entry)) ⌝ }
 {
@@ -169,20 +176,32 @@ pub fn get_string_token(rest: &[u8], dialect: Dialect, hints: &[usize]) -> Recog
     }
 }
 
-// Like `quoted_taken`, with other escapes.
-fn placeholder_quoted_taken(rest: &[u8]) -> Taken
-    ensures { λ r. ⌜ r ≡ placeholderQuotedTaken (now (rest .entry)) ⌝ }
+pub fn get_string_token(rest: &[u8], dialect: Dialect, hints: &[usize]) -> Recognised
+    requires { ⌜ Truthful (now hints) (now rest) ⌝ }
+    ensures { λ r. ⌜ r ≡ getStringToken dialect (now (rest .entry)) ⌝ }
 {
-    let double = quoted(rest, b"\"", b'"', b"\\");
-    let single = quoted(rest, b"'", b'\'', b"\\");
-    first_of(double, first_of(single, quoted(rest, b"N'", b'\'', b"\\")))
+    if starts_among(rest, b"'\"`[NExX") {
+        return try_string(rest, dialect, hints);
+    }
+    Recognised::Nothing
 }
 
+// Like `string_taken`, with other escapes.
 pub fn placeholder_string_taken(rest: &[u8], dialect: Dialect, hints: &[usize]) -> Taken
     requires { ⌜ Truthful (now hints) (now rest) ⌝ }
     ensures { λ r. ⌜ r ≡ placeholderStringTaken dialect (now (rest .entry)) ⌝ }
 {
-    let tick = quoted(rest, b"`", b'`', b"`");
-    let bracket = bracketed(rest, dialect, hints);
-    first_of(tick, first_of(bracket, placeholder_quoted_taken(rest)))
+    if stands_at(rest, 0, b'\'') {
+        return quoted(rest, b"'", b'\'', b"\\");
+    }
+    if stands_at(rest, 0, b'"') {
+        return quoted(rest, b"\"", b'"', b"\\");
+    }
+    if stands_at(rest, 0, b'`') {
+        return quoted(rest, b"`", b'`', b"`");
+    }
+    if stands_at(rest, 0, b'[') {
+        return bracketed(rest, dialect, hints);
+    }
+    quoted(rest, b"N'", b'\'', b"\\")
 }

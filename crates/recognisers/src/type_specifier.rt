@@ -3,6 +3,7 @@ use crate::Recognised;
 use crate::TokenKind;
 use crate::scan::exactly;
 use crate::scan::first_of;
+use crate::scan::starts_among;
 use crate::scan::token_of;
 ghost use mathlib.Core.Path.{_≡_};
 ghost use Rattle.recognisers.specs.Text.{bytes};
@@ -21,11 +22,20 @@ fn type_specifier(rest: &[u8]) -> Recognised
 }
 
 // The token before allows one, or there is none.
-pub fn get_type_specifier_token(rest: &[u8], allowed: bool) -> Recognised
+fn try_type_specifier(rest: &[u8], allowed: bool) -> Recognised
     ensures { λ r. ⌜ r ≡ getTypeSpecifierToken allowed (now (rest .entry)) ⌝ }
 {
     if allowed {
         return type_specifier(rest);
+    }
+    Recognised::Nothing
+}
+
+pub fn get_type_specifier_token(rest: &[u8], allowed: bool) -> Recognised
+    ensures { λ r. ⌜ r ≡ getTypeSpecifierToken allowed (now (rest .entry)) ⌝ }
+{
+    if starts_among(rest, b":[") {
+        return try_type_specifier(rest, allowed);
     }
     Recognised::Nothing
 }

@@ -1,10 +1,10 @@
 // `get_whitespace_token`, `get_operator_token`, `get_word_token` and `get_any_other_char`.
 use crate::Recognised;
-use crate::Taken;
 use crate::TokenKind;
 use crate::scan::at_least;
 use crate::scan::is_among;
 use crate::scan::stands_at;
+use crate::scan::starts_among;
 use crate::scan::token_of;
 use unicode::Class;
 ghost use mathlib.Core.Path.{_≡_};
@@ -12,9 +12,12 @@ ghost use mathlib.Core.Bool.{_||_};
 ghost use Prim.Native.Nat.{min};
 ghost use Rattle.recognisers.specs.Taking.{count, startsWith};
 ghost use Rattle.recognisers.specs.Text.{byte};
+ghost use Rattle.recognisers.specs.Inner.WordLength.{wordLength};
+ghost use Rattle.unicode.specs.Classes.{isWordCharacter};
+ghost use Rattle.unicode.specs.Runs.{run};
 ghost use Rattle.recognisers.specs.Words.{getWhitespaceToken, isOperator, getOperatorToken, getWordToken, getAnyOtherChar};
 
-pub fn get_whitespace_token(rest: &[u8]) -> Recognised
+fn try_whitespace(rest: &[u8]) -> Recognised
     ensures { λ r. ⌜ r ≡ getWhitespaceToken (now (rest .entry)) ⌝ }
 {
     token_of(
@@ -23,10 +26,21 @@ pub fn get_whitespace_token(rest: &[u8]) -> Recognised
     )
 }
 
+// No other byte begins whitespace; C0, E0 and F0 begin none in a well-formed text.
+pub fn get_whitespace_token(rest: &[u8]) -> Recognised
+    ensures { λ r. ⌜ r ≡ getWhitespaceToken (now (rest .entry)) ⌝ }
+{
+    if starts_among(rest, b"\x09\x0A\x0B\x0C\x0D \xC0\xC2\xE0\xE1\xE2\xE3\xF0") {
+        return try_whitespace(rest);
+    }
+    Recognised::Nothing
+}
+
+// In two halves: eight bytes are one test.
 fn is_operator(b: u8) -> bool
     ensures { λ r. ⌜ r ≡ isOperator b ⌝ }
 {
-    is_among(b"!<>=|:-~*&@^?#/%", b)
+    is_among(b"!<>=|:-~", b) || is_among(b"*&@^?#/%", b)
 }
 
 fn count_operators(rest: &[u8]) -> usize
@@ -43,14 +57,18 @@ fn count_operators(rest: &[u8]) -> usize
     i
 }
 
+fn at_most_five(n: usize) -> usize
+    ensures { λ r. ⌜ r ≡ min n 5 ⌝ }
+{
+    if n < 5 { n } else { 5 }
+}
+
 // Five bytes are enough to look at.
 fn few_operators(rest: &[u8]) -> usize
     ensures { λ r. ⌜ r ≡ min (count isOperator (now (rest .entry))) 5 ⌝ }
 {
-    if 5 <= rest.len() {
-        return count_operators(&rest[..5]);
-    }
-    count_operators(rest)
+    let n = at_most_five(rest.len());
+    count_operators(&rest[..n])
 }
 
 pub fn get_operator_token(rest: &[u8]) -> Recognised
@@ -59,13 +77,26 @@ pub fn get_operator_token(rest: &[u8]) -> Recognised
     token_of(TokenKind::Operator, at_least(2, few_operators(rest)))
 }
 
-pub fn get_word_token(rest: &[u8]) -> Recognised
+// The end of a word that begins with so many ASCII word characters.
+fn word_end(rest: &[u8], word: usize) -> usize
+    requires { ⌜ word ≡ wordLength (now rest) ⌝ }
+    ensures { λ r. ⌜ r ≡ run isWordCharacter 0 (now (rest .entry)) ⌝ }
+{
+    if rest.len() <= word {
+        return word;
+    }
+    if rest[word] < 128 {
+        return word;
+    }
+    unicode::run_from(rest, word, Class::Word)
+}
+
+// `word` is what `word_length` tells of the rest.
+pub fn get_word_token(rest: &[u8], word: usize) -> Recognised
+    requires { ⌜ word ≡ wordLength (now rest) ⌝ }
     ensures { λ r. ⌜ r ≡ getWordToken (now (rest .entry)) ⌝ }
 {
-    token_of(
-        TokenKind::Word,
-        at_least(1, unicode::run_of(rest, Class::Word)),
-    )
+    token_of(TokenKind::Word, at_least(1, word_end(rest, word)))
 }
 
 fn is_line_break(rest: &[u8]) -> bool

@@ -1,6 +1,6 @@
 -- The first entry makes the token that the six recognisers, tried in turn, make.
 -- Assumes nothing.
-use Prim.Native.Nat.{ℕ, _+_, _-_, _≤_}
+use Prim.Native.Nat.{ℕ, _+_, _-_, _≤_, zero-le}
 use native.Mathlib.Omega.{arith}
 use mathlib.Core.Path.{_≡_, refl, sym, ap, _∙_}
 use mathlib.Core.List.{List, [], _∷_, _++_}
@@ -16,8 +16,6 @@ use Rattle.recognisers.specs.declared.Recognised.the-variants as R
 use Rattle.recognisers.specs.Taking.{taken, or, capital}
 use Rattle.recognisers.specs.Pieces.{tokenOf, alt}
 use Rattle.reserved.specs.declared.TopLevel.{TopLevel}
-use Rattle.reserved.specs.declared.FoundPhrase.{FoundPhrase}
-use Rattle.reserved.specs.declared.FoundPhrase.the-variants.{Entry, Nothing}
 use Rattle.reserved.specs.Phrases.{Phrase, phrase, phraseIfExists, phraseEnd, firstPhrase}
 use Rattle.reserved.specs.TopLevel.{topLevelPhrases}
 use Rattle.reserved.specs.NewlineAfter.{newlineAfterPhrases}
@@ -25,9 +23,10 @@ use Rattle.reserved.specs.Newline.{newlinePhrases}
 use Rattle.reserved.specs.Join.{joinPhrases}
 use Rattle.reserved.specs.NoIndent.{noIndentPhrases}
 use Rattle.reserved.specs.Plain.{plainTwoPhrases, plainOnePhrases, plainA, plainB, plainC, plainD, plainE, plainF, plainG, plainH, plainI, plainK, plainL, plainM, plainN, plainO, plainP, plainQ, plainR, plainS, plainT, plainU, plainV, plainW, plainY}
-use Rattle.reserved.specs.Inner.Entries.{grouped, entries, ifExists, ending, entryEnd, chosen, findEntry, tokenFor}
+use Rattle.reserved.specs.Inner.Entries.{FoundPhrase, Entry, Nothing, lengthOf, groupOf, grouped, entries, ifExists, ending, entryEnd, chosen, findEntry, tokenFor}
 use Rattle.reserved.specs.Reserved.{topLevelToken, newlineToken, getTopLevelReservedToken, getNewlineAfterReservedToken, getNewlineReservedToken, getJoinToken, getTopLevelReservedTokenNoIndent, getPlainReservedToken, mayBeReserved, getReservedWordToken}
 use Rattle.reserved.proofs.PhraseWalk.{walk-inside, ending-inside}
+use Rattle.reserved.proofs.FirstEntry.{found-long}
 
 -- ---- one list after another
 
@@ -200,15 +199,29 @@ found-inside (x ∷ es) s group n e = go (entryEnd (x .0) (x .1) s) refl (found-
         omega arith
     go Fails q rest = rest (rw q at e)
 
-module _ (s : List ℕ) (between : Bool) (last : TopLevel) (f : FoundPhrase) (e : f ≡ findEntry entries s) where
-  pub entry-length : (group n : ℕ) → f ≡ Entry group n → n ≤ length s
-  entry-length group n q = found-inside entries s group n (sym e ∙ q)
+module _ (s : List ℕ) (n : ℕ) (e : n ≡ lengthOf (findEntry entries s)) where
+  pub entry-length : n ≤ length s
+  entry-length = go (findEntry entries s) refl e
+    where
+      go : (f : FoundPhrase) → findEntry entries s ≡ f → n ≡ lengthOf f → n ≤ length s
+      go (Entry group m) q k = rw k (found-inside entries s group m q)
+      go Nothing q k = rw k zero-le
 
-  pub entry-token : (group n : ℕ) (r : Recognised) → f ≡ Entry group n → r ≡ tokenFor between last s (Entry group n) → r ≡ tokenFor between last s (findEntry entries s)
-  entry-token group n r q k = k ∙ rw (← e, q)
+  module _ (between : Bool) (last : TopLevel) where
+    pub entry-none : n ≡ 0 → R.Nothing ≡ tokenFor between last s (findEntry entries s)
+    entry-none z = go (findEntry entries s) refl e
+      where
+        go : (f : FoundPhrase) → findEntry entries s ≡ f → n ≡ lengthOf f → R.Nothing ≡ tokenFor between last s f
+        go (Entry group m) q k = absurd (let l = found-long s group m q in let y : ⊥ = omega arith in y)
+        go Nothing q k = refl
 
-  pub entry-none : f ≡ Nothing → R.Nothing ≡ tokenFor between last s (findEntry entries s)
-  entry-none q = rw (← e, q)
+    pub entry-token : (group : ℕ) (r : Recognised) → group ≡ groupOf 0 (findEntry entries s) → (n ≡ 0 → ⊥) → r ≡ tokenFor between last s (Entry group n)
+        → r ≡ tokenFor between last s (findEntry entries s)
+    entry-token group r g z h = go (findEntry entries s) e g
+      where
+        go : (f : FoundPhrase) → n ≡ lengthOf f → group ≡ groupOf 0 f → r ≡ tokenFor between last s f
+        go (Entry letter m) k j = rw (← k, ← j) h
+        go Nothing k j = absurd (z k)
 
 -- ---- the first letter
 

@@ -14,8 +14,7 @@ use borrow.Author.Tests.{ne-eqb, eqb-true, eqb-false, le-leb, lt-leb, leb-true, 
 use Rattle.recognisers.specs.declared.Taken.{Taken}
 use Rattle.recognisers.specs.declared.Taken.the-variants.{Bytes, Fails}
 use Rattle.recognisers.specs.Taking.{one, capital, contains}
-use Rattle.reserved.specs.declared.FoundPhrase.{FoundPhrase}
-use Rattle.reserved.specs.declared.FoundPhrase.the-variants.{Entry, Nothing}
+use Rattle.recognisers.proofs.PieceSizes.{Least}
 use Rattle.reserved.specs.Phrases.{walk, each}
 use Rattle.reserved.specs.TopLevel.{creatable, alterableOrDroppable, eachDropped, topLevelPhrases}
 use Rattle.reserved.specs.NewlineAfter.{newlineAfterPhrases}
@@ -23,7 +22,8 @@ use Rattle.reserved.specs.Newline.{newlinePhrases}
 use Rattle.reserved.specs.Join.{joinPhrases}
 use Rattle.reserved.specs.NoIndent.{noIndentPhrases}
 use Rattle.reserved.specs.Plain.{plainTwoPhrases, plainOnePhrases, plainA, plainB, plainC, plainD, plainE, plainF, plainG, plainH, plainI, plainK, plainL, plainM, plainN, plainO, plainP, plainQ, plainR, plainS, plainT, plainU, plainV, plainW, plainY}
-use Rattle.reserved.specs.Inner.Entries.{grouped, entries, entryEnd, chosen, findEntry, encoded, entriesOf, tableFind}
+use Rattle.reserved.specs.Inner.Entries.{Entry, Nothing, lengthOf, groupOf, grouped, entries, ending, entryEnd, chosen, findEntry, encoded, entriesOf, tableFind}
+use Rattle.reserved.proofs.PhraseSizes.{walk-some}
 
 -- ---- the loop of `find_in`
 
@@ -51,8 +51,14 @@ module _ (table s : List ℕ) (at n : ℕ) (f : FindAt table s at) (h : at + 1 <
   unfolding tableFind
   shown = f .same ∙ rw parted
 
-  pub find-cut : length table - (at + 2) < n → Nothing ≡ tableFind 0 table s
+  find-cut : length table - (at + 2) < n → Nothing ≡ tableFind 0 table s
   find-cut l = sym (shown ∙ rw (length-drop (at + 2) table, lt-leb n (length table - (at + 2)) l))
+
+  pub cut-length : length table - (at + 2) < n → 0 ≡ lengthOf (tableFind 0 table s)
+  cut-length l = ap lengthOf (find-cut l)
+
+  pub cut-group : (before after : ℕ) → after ≡ before → length table - (at + 2) < n → after ≡ groupOf before (tableFind 0 table s)
+  cut-group before after q l = q ∙ ap (groupOf before) (find-cut l)
 
   module _ (l : n ≤ length table - (at + 2)) (t : Taken) (c : t ≡ entryEnd (getD table at 0) (take (at + 2 + n - (at + 2)) (drop (at + 2) table)) s) where
     found : tableFind 0 table s ≡ chosen (getD table at 0) t (tableFind n (drop (at + 2) table) s)
@@ -61,8 +67,11 @@ module _ (table s : List ℕ) (at n : ℕ) (f : FindAt table s at) (h : at + 1 <
         let c′ : t ≡ entryEnd (getD table at 0) (take n (drop (at + 2) table)) s = rw z at c in
         shown ∙ rw (length-drop (at + 2) table, le-leb n (length table - (at + 2)) l, ← c′)
 
-    pub find-here : (m : ℕ) → t ≡ Bytes m → Entry (getD table at 0) m ≡ tableFind 0 table s
-    find-here m q = sym (found ∙ rw q)
+    pub find-here : (m : ℕ) → t ≡ Bytes m → m ≡ lengthOf (tableFind 0 table s)
+    find-here m q = sym (ap lengthOf {y = Entry (getD table at 0) m} (found ∙ rw q))
+
+    find-group : (before m : ℕ) → t ≡ Bytes m → getD table at 0 ≡ groupOf before (tableFind 0 table s)
+    find-group before m q = sym (ap (groupOf before) {y = Entry (getD table at 0) m} (found ∙ rw q))
 
     pub find-next : t ≡ Fails → FindAt table s (at + 2 + n)
     find-next q =
@@ -71,7 +80,7 @@ module _ (table s : List ℕ) (at n : ℕ) (f : FindAt table s at) (h : at + 1 <
           same = found ∙ rw q (table-pass n (drop (at + 2) table) s (rw length-drop l) ∙ rw (drop-drop n (at + 2) table));
         }
 
-pub find-end : (table s : List ℕ) (at : ℕ) → FindAt table s at → length table ≤ at + 1 → Nothing ≡ tableFind 0 table s
+find-end : (table s : List ℕ) (at : ℕ) → FindAt table s at → length table ≤ at + 1 → Nothing ≡ tableFind 0 table s
 unfolding tableFind
 find-end table s at f h = go (drop at table) refl
   where
@@ -80,6 +89,18 @@ find-end table s at f h = go (drop at table) refl
     go (g ∷ []) q = sym (f .same ∙ rw q)
     go (g ∷ n ∷ t) q =
         absurd (let l : length (drop at table) ≡ suc (suc (length t)) = rw q in let i = f .inside in let z : ⊥ = omega (arith, length-drop at table) in z)
+
+module _ (table s : List ℕ) (at : ℕ) (f : FindAt table s at) (h : length table ≤ at + 1) where
+  pub end-length : 0 ≡ lengthOf (tableFind 0 table s)
+  end-length = ap lengthOf (find-end table s at f h)
+
+  pub end-group : (before after : ℕ) → after ≡ before → after ≡ groupOf before (tableFind 0 table s)
+  end-group before after q = q ∙ ap (groupOf before) (find-end table s at f h)
+
+-- `find-group` with its premises in the order in which a search finds them
+pub group-here : (t : Taken) (m : ℕ) → t ≡ Bytes m → (table s : List ℕ) (at n before : ℕ) → t ≡ entryEnd (getD table at 0) (take (at + 2 + n - (at + 2)) (drop (at + 2) table)) s
+    → n ≡ getD table (at + 1) 0 → FindAt table s at → at + 1 < length table → n ≤ length table - (at + 2) → getD table at 0 ≡ groupOf before (tableFind 0 table s)
+group-here t m q table s at n before c e f h l = find-group table s at n f h e l t c before m q
 
 -- ---- a table of encoded entries
 
@@ -142,7 +163,7 @@ abbrev pub allAmong : List ℕ → List (ℕ × List ℕ) → Bool
 allAmong letters [] = true
 allAmong letters (e ∷ es) = contains letters (getD (e .1) 0 0) && allAmong letters es
 
-none-of : (x w : ℕ) (letters : List ℕ) → NoneOf x letters → contains letters w ≡ true → x ≡ w → ⊥
+pub none-of : (x w : ℕ) (letters : List ℕ) → NoneOf x letters → contains letters w ≡ true → x ≡ w → ⊥
 unfolding contains
 none-of x w [] n c q = false≢true c
 none-of x w (letter ∷ letters) n c q = go (eqb w letter) refl (none-of x w letters (n .0))
@@ -168,8 +189,8 @@ unfolding entries grouped topLevelPhrases creatable alterableOrDroppable each ea
 all-lettered = refl
 
 module _ (s : List ℕ) (x : ℕ) (c : x ≡ capital (getD s 0 0)) where
-  pub letter-is : (letter : ℕ) (r : FoundPhrase) → x ≡ letter → r ≡ tableFind 0 (encoded (entriesOf letter entries)) s → r ≡ findEntry entries s
-  letter-is letter r e f = f ∙ encoded-find (entriesOf letter entries) s ∙ letter-find letter entries s all-lettered (sym c ∙ e)
+  pub letter-is : (letter : ℕ) → x ≡ letter → findEntry (entriesOf letter entries) s ≡ findEntry entries s
+  letter-is letter e = letter-find letter entries s all-lettered (sym c ∙ e)
 
   pub none-is : (letters : List ℕ) → allAmong letters entries ≡ true → NoneOf x letters → Nothing ≡ findEntry entries s
   none-is letters k n = none-find letters entries s all-lettered k (rw (← c) n)
@@ -185,6 +206,37 @@ none-starts (e ∷ es) l =
     no-text [] o n = absurd (not-suc-le-zero o)
     no-text (p ∷ words) o n = rw (ne-eqb p 32 n)
 
-pub empty-is : (s : List ℕ) → length s ≡ 0 → Nothing ≡ findEntry entries s
+empty-is : (s : List ℕ) → length s ≡ 0 → Nothing ≡ findEntry entries s
 empty-is [] h = none-starts entries all-lettered
 empty-is (b ∷ s) h = absurd (let z : ⊥ = omega arith in z)
+
+module _ (s : List ℕ) (h : length s ≡ 0) where
+  pub empty-length : 0 ≡ lengthOf (findEntry entries s)
+  empty-length = ap lengthOf (empty-is s h)
+
+  pub empty-group : (before : ℕ) → before ≡ groupOf before (findEntry entries s)
+  empty-group before = ap (groupOf before) (empty-is s h)
+
+-- ---- an entry that is found takes some bytes
+
+some-bytes : (group : ℕ) (words s : List ℕ) → 1 ≤ length words → (getD words 0 0 ≡ 32 → ⊥) → Least 1 (entryEnd group words s)
+unfolding entryEnd
+some-bytes group [] s o n = absurd (not-suc-le-zero o)
+some-bytes group (p ∷ words) s o n = walk-some (p ∷ words) (ending (eqb group 68)) (rw (ne-eqb p 32 n)) s
+
+found-some : (es : List (ℕ × List ℕ)) (s : List ℕ) → lettered es ≡ true → (group m : ℕ) → findEntry es s ≡ Entry group m → 0 < m
+unfolding findEntry
+found-some [] s l group m q = absurd (let z : _≡_ {A = ℕ} 0 1 = cc in let y : ⊥ = omega arith in y)
+found-some (e ∷ es) s l group m q =
+    let f = lettered-first e es l in
+    go (entryEnd (e .0) (e .1) s) refl (some-bytes (e .0) (e .1) s (f .some) (f .letter)) (found-some es s (f .rest) group m)
+  where
+    go : (t : Taken) → entryEnd (e .0) (e .1) s ≡ t → Least 1 t → (findEntry es s ≡ Entry group m → 0 < m) → 0 < m
+    go (Bytes k) h some rest =
+        let g : Entry (e .0) k ≡ Entry group m = rw h at q in
+        let j : k ≡ m = cc in
+        omega (arith, some)
+    go Fails h some rest = rest (rw h at q)
+
+pub found-long : (s : List ℕ) (group m : ℕ) → findEntry entries s ≡ Entry group m → 0 < m
+found-long s group m q = found-some entries s all-lettered group m q

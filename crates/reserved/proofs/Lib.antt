@@ -3,6 +3,9 @@ pub mod Behind
 pub mod PhraseWalk
 pub mod MeasuredGaps
 pub mod FirstEntry
+pub mod OtherLengths
+pub mod LetterEntries
+pub mod LoneDollar
 pub mod EntryTokens
 pub mod PhraseSizes
 pub mod PhraseBoundaries

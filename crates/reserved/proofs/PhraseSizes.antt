@@ -32,7 +32,7 @@ use Rattle.reserved.specs.Reserved.{aliasLength, topLevelToken, newlineT
 use Rattle.reserved.proofs.PhraseWalk.{wordsOf, walk-inside, exists-inside}
 
 -- a phrase begins with a byte that is no space
-abbrev begins : List ℕ → Bool
+abbrev pub begins : List ℕ → Bool
 begins [] = false
 begins (p ∷ words) = not (eqb p (byte " "))
 
@@ -40,7 +40,7 @@ abbrev allBegin : List Phrase → Bool
 allBegin [] = true
 allBegin (p ∷ phrases) = begins (wordsOf p) && allBegin phrases
 
-walk-some : (words : List ℕ) (then : Taker) → begins words ≡ true → (s : List ℕ) → Least 1 (walk words then s)
+pub walk-some : (words : List ℕ) (then : Taker) → begins words ≡ true → (s : List ℕ) → Least 1 (walk words then s)
 unfolding walk
 walk-some [] then e s = absurd (false≢true e)
 walk-some (p ∷ words) then e s = go (eqb p 32) e

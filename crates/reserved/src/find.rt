@@ -1,5 +1,4 @@
 // A phrase at the start of a rest, and the first phrase of a table.
-use crate::FoundPhrase;
 use crate::gaps::gap_at;
 use crate::gaps::no_gaps;
 use crate::gaps::slot_behind;
@@ -16,7 +15,7 @@ ghost use lib.ListN.{length, drop};
 ghost use Rattle.recognisers.specs.Taking.{done};
 ghost use Rattle.reserved.specs.Phrases.{walk};
 ghost use Rattle.reserved.specs.Inner.Gaps.{Measured};
-ghost use Rattle.reserved.specs.Inner.Entries.{ifExists, ending, entryEnd, tableFind};
+ghost use Rattle.reserved.specs.Inner.Entries.{lengthOf, groupOf, ifExists, ending, entryEnd, tableFind};
 
 // A letter of a phrase at the start of the rest, in either case.
 fn letter_step(rest: &[u8], w: u8) -> Taken
@@ -107,9 +106,11 @@ fn wide(b: u8) -> usize
     b as usize
 }
 
-// The first entry of a table.
-pub fn find_in(table: &[u8], rest: &[u8]) -> FoundPhrase
-    ensures { λ r. ⌜ r ≡ tableFind 0 (now (table .entry)) (now (rest .entry)) ⌝ }
+// The first entry of a table that stands at the start of the rest: how many bytes it takes, or 0. Its group's letter is written
+// to `found`. (An enum for both would go through memory, which takes longer than the search.)
+pub fn find_in(table: &[u8], rest: &[u8], found: &mut u8) -> usize
+    ensures { λ r. ⌜ r ≡ lengthOf (tableFind 0 (now (table .entry)) (now (rest .entry))) ⌝ }
+    ensures { λ _. ⌜ now (found .exit) ≡ groupOf (now (found .entry)) (tableFind 0 (now (table .entry)) (now (rest .entry))) ⌝ }
 {
     let mut gaps = no_gaps(rest);
     let mut at = 0;
@@ -118,16 +119,14 @@ pub fn find_in(table: &[u8], rest: &[u8]) -> FoundPhrase
         let start = at + 2;
         let n = wide(table[at + 1]);
         if table.len() - start < n {
-            return FoundPhrase::Nothing;
+            return 0;
         }
         let end = start + n;
         if let Taken::Bytes(len) = entry_end(rest, group, &table[start..end], &mut gaps) {
-            return FoundPhrase::Entry {
-                group: group,
-                len: len,
-            };
+            *found = group;
+            return len;
         }
         at = end;
     }
-    FoundPhrase::Nothing
+    0
 }

@@ -15,9 +15,3 @@ pub enum TopLevel {
     DeleteFrom,
     Other,
 }
-
-// The phrase that stands at the start of a rest: its group's letter and how many bytes it takes.
-pub enum FoundPhrase {
-    Entry { group: u8, len: usize },
-    Nothing,
-}

@@ -1,5 +1,4 @@
 // `get_reserved_word_token`, and what EXCEPT, SET, USING and AND ask of earlier tokens.
-use crate::FoundPhrase;
 use crate::TopLevel;
 use crate::tables::find_phrase;
 use recognisers::Key;
@@ -8,6 +7,7 @@ use recognisers::Recognised;
 use recognisers::Taken;
 use recognisers::TokenKind;
 use recognisers::capital_of;
+use recognisers::is_capital;
 use recognisers::is_exactly;
 use recognisers::is_spelled;
 use recognisers::stands_at;
@@ -15,14 +15,15 @@ use recognisers::token_of;
 ghost use mathlib.Core.Path.{_≡_};
 ghost use mathlib.Core.Bool.{not, _&&_, _||_};
 ghost use Prim.Native.Nat.{_≤_};
-ghost use lib.ListN.{length, getD};
+ghost use lib.ListN.{length, drop, getD};
 ghost use Rattle.unicode.specs.Ranges.{within};
-ghost use Rattle.recognisers.specs.Text.{bytes};
+ghost use Rattle.recognisers.specs.Text.{byte, bytes};
 ghost use Rattle.recognisers.specs.Same.{same};
-ghost use Rattle.recognisers.specs.Taking.{typed, isSpelled, capital};
+ghost use Rattle.recognisers.specs.Taking.{typed, isSpelled, capital, startsWith};
+ghost use Rattle.recognisers.specs.Inner.WordLength.{wordLength};
 ghost use Rattle.recognisers.specs.declared.Taken.the-variants.{Bytes};
 ghost use Rattle.reserved.specs.Reserved.{isSelect, isUpdate, takesUsing, topLevelKind, aliasLength, topLevelToken, newlineToken, mayBeReserved, getReservedWordToken};
-ghost use Rattle.reserved.specs.Inner.Entries.{entries, findEntry, tokenFor};
+ghost use Rattle.reserved.specs.Inner.Entries.{Entry, entries, findEntry, tokenFor};
 
 fn is_select(last: TopLevel) -> bool
     ensures { λ r. ⌜ r ≡ isSelect last ⌝ }
@@ -143,7 +144,7 @@ fn newline_token(rest: &[u8], n: usize, after_between: bool) -> Recognised
 
 fn token_for(rest: &[u8], group: u8, n: usize, after_between: bool, last: TopLevel) -> Recognised
     requires { ⌜ n ≤ length (now rest) ⌝ }
-    ensures { λ r. ⌜ r ≡ tokenFor «after_between» last (now (rest .entry)) (FoundPhrase.Entry group n) ⌝ }
+    ensures { λ r. ⌜ r ≡ tokenFor «after_between» last (now (rest .entry)) (Entry group n) ⌝ }
 {
     match group {
         b'T' | b'D' => top_level_token(rest, n, last),
@@ -153,12 +154,6 @@ fn token_for(rest: &[u8], group: u8, n: usize, after_between: bool, last: TopLev
         b'I' => token_of(TokenKind::ReservedTopLevelNoIndent, Taken::Bytes(n)),
         _ => token_of(TokenKind::Reserved, Taken::Bytes(n)),
     }
-}
-
-fn is_capital(b: u8) -> bool
-    ensures { λ r. ⌜ r ≡ within 65 90 b ⌝ }
-{
-    0x41 <= b && b <= 0x5A
 }
 
 fn starts_with_letter(rest: &[u8]) -> bool
@@ -177,28 +172,47 @@ fn may_be_reserved(rest: &[u8]) -> bool
     starts_with_letter(rest) || stands_at(rest, 0, b'$')
 }
 
-fn reserved_token(rest: &[u8], after_between: bool, last: TopLevel) -> Recognised
-    ensures { λ r. ⌜ r ≡ tokenFor «after_between» last (now (rest .entry)) (findEntry entries (now (rest .entry))) ⌝ }
+// A `$` without another behind it begins no phrase.
+fn is_lone_dollar(rest: &[u8]) -> bool
+    ensures { λ r. ⌜ r ≡ (startsWith (byte "$") (now (rest .entry)) && not (startsWith (byte "$") (drop 1 (now (rest .entry))))) ⌝ }
 {
-    match find_phrase(rest) {
-        FoundPhrase::Entry { group, len } => token_for(rest, group, len, after_between, last),
-        FoundPhrase::Nothing => Recognised::Nothing,
+    if stands_at(rest, 0, b'$') {
+        return !stands_at(rest, 1, b'$');
     }
+    false
 }
 
+fn reserved_token(rest: &[u8], word: usize, after_between: bool, last: TopLevel) -> Recognised
+    requires { ⌜ word ≡ wordLength (now rest) ⌝ }
+    ensures { λ r. ⌜ r ≡ tokenFor «after_between» last (now (rest .entry)) (findEntry entries (now (rest .entry))) ⌝ }
+{
+    if is_lone_dollar(rest) {
+        return Recognised::Nothing;
+    }
+    let mut group = 0;
+    let n = find_phrase(rest, word, &mut group);
+    if n == 0 {
+        return Recognised::Nothing;
+    }
+    token_for(rest, group, n, after_between, last)
+}
+
+// `word` is what `word_length` tells of the rest.
 pub fn get_reserved_word_token(
     rest: &[u8],
+    word: usize,
     after_dot: bool,
     after_between: bool,
     last: TopLevel,
 ) -> Recognised
+    requires { ⌜ word ≡ wordLength (now rest) ⌝ }
     ensures { λ r. ⌜ r ≡ getReservedWordToken «after_dot» «after_between» last (now (rest .entry)) ⌝ }
 {
     if after_dot {
         return Recognised::Nothing;
     }
     if may_be_reserved(rest) {
-        return reserved_token(rest, after_between, last);
+        return reserved_token(rest, word, after_between, last);
     }
     Recognised::Nothing
 }

@@ -13,38 +13,43 @@ use recognisers::get_string_token;
 use recognisers::get_type_specifier_token;
 use recognisers::get_whitespace_token;
 use recognisers::get_word_token;
+use recognisers::word_length;
 use reserved::get_reserved_word_token;
 ghost use mathlib.Core.Path.{_≡_};
 ghost use Rattle.recognisers.specs.Inner.Known.{Truthful};
+ghost use Rattle.recognisers.specs.Inner.WordLength.{wordLength};
 ghost use Rattle.tokenizer.specs.NextToken.{fromWord, fromPlaceholder, fromOperator, fromReserved, fromNumber, fromCloseParen, fromOpenParen, fromString, fromTypeSpecifier, getNextToken, nextPiece};
 
-fn from_word(rest: &[u8]) -> Recognised
+fn from_word(rest: &[u8], word: usize) -> Recognised
+    requires { ⌜ word ≡ wordLength (now rest) ⌝ }
     ensures { λ r. ⌜ r ≡ fromWord (now (rest .entry)) ⌝ }
 {
-    match get_word_token(rest) {
+    match get_word_token(rest, word) {
         Recognised::Token(piece) => Recognised::Token(piece),
         Recognised::Nothing => get_any_other_char(rest),
     }
 }
 
-fn from_placeholder(rest: &[u8], settings: Settings, hints: &[usize]) -> Recognised
+fn from_placeholder(rest: &[u8], word: usize, settings: Settings, hints: &[usize]) -> Recognised
+    requires { ⌜ word ≡ wordLength (now rest) ⌝ }
     requires { ⌜ Truthful (now hints) (now rest) ⌝ }
     ensures { λ r. ⌜ r ≡ fromPlaceholder settings (now (rest .entry)) ⌝ }
 {
     let dialect = settings.dialect;
     match get_placeholder_token(rest, settings.named, dialect, hints) {
         Recognised::Token(piece) => Recognised::Token(piece),
-        Recognised::Nothing => from_word(rest),
+        Recognised::Nothing => from_word(rest, word),
     }
 }
 
-fn from_operator(rest: &[u8], settings: Settings, hints: &[usize]) -> Recognised
+fn from_operator(rest: &[u8], word: usize, settings: Settings, hints: &[usize]) -> Recognised
+    requires { ⌜ word ≡ wordLength (now rest) ⌝ }
     requires { ⌜ Truthful (now hints) (now rest) ⌝ }
     ensures { λ r. ⌜ r ≡ fromOperator settings (now (rest .entry)) ⌝ }
 {
     match get_operator_token(rest) {
         Recognised::Token(piece) => Recognised::Token(piece),
-        Recognised::Nothing => from_placeholder(rest, settings, hints),
+        Recognised::Nothing => from_placeholder(rest, word, settings, hints),
     }
 }
 
@@ -53,9 +58,10 @@ fn from_reserved(rest: &[u8], settings: Settings, memory: Memory, hints: &[usize
     ensures { λ r. ⌜ r ≡ fromReserved settings memory (now (rest .entry)) ⌝ }
 {
     let last = memory.top_level;
-    match get_reserved_word_token(rest, memory.after_dot, memory.after_between, last) {
+    let word = word_length(rest);
+    match get_reserved_word_token(rest, word, memory.after_dot, memory.after_between, last) {
         Recognised::Token(piece) => Recognised::Token(piece),
-        Recognised::Nothing => from_operator(rest, settings, hints),
+        Recognised::Nothing => from_operator(rest, word, settings, hints),
     }
 }
 
@@ -117,12 +123,7 @@ fn from_type_specifier(
     }
 }
 
-pub fn get_next_token(
-    rest: &[u8],
-    settings: Settings,
-    memory: Memory,
-    hints: &[usize],
-) -> Recognised
+fn get_next_token(rest: &[u8], settings: Settings, memory: Memory, hints: &[usize]) -> Recognised
     requires { ⌜ Truthful (now hints) (now rest) ⌝ }
     ensures { λ r. ⌜ r ≡ getNextToken settings memory (now (rest .entry)) ⌝ }
 {

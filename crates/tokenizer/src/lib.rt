@@ -29,13 +29,13 @@ pub struct Memory {
 }
 
 // A token of a statement: start, length and alias length in bytes, a key whose places count from the statement's start, and how many
-// of its quotes are escaped.
+// of its quotes are escaped. No two lengths are neighbours: two that are written one by one and then read as a pair are waited for.
 pub struct Token {
+    pub len: usize,
     pub kind: TokenKind,
     pub start: usize,
-    pub len: usize,
-    pub alias: usize,
     pub key: Key,
+    pub alias: usize,
     pub escaped: usize,
 }
 

@@ -2,10 +2,8 @@
 -- 128 on the rule says that a character is none of them.
 -- Assumes nothing.
 use Prim.Native.Nat.{ℕ, zero, suc, _≤_, _<_}
-use native.Mathlib.Nat.{eq-or-lt-of-le, le-of-suc-le-suc, not-suc-le-zero}
 use native.Mathlib.Omega.{arith}
-use mathlib.Core.Path.{_≡_, refl, sym}
-use mathlib.Core.Logic.{⊎-elim}
+use mathlib.Core.Path.{_≡_, refl, sym, ap, _∙_}
 use mathlib.Core.Bool.{Bool, true, false, cond, _&&_, _||_, Bool·beq, or-assoc, and-eq-true-iff}
 use lib.Dec.{leb, ltb, eqb}
 use borrow.Author.Tests.{ltb-true, ltb-false, eq-eqb, ne-eqb}
@@ -16,21 +14,11 @@ use Rattle.unicode.specs.Numeric.{numeric}
 use Rattle.unicode.specs.Mark.{mark}
 use Rattle.unicode.specs.Connector.{connector}
 use Rattle.unicode.specs.Classes.{isWhitespace, isAlphabetic, isNumeric, isMark, isPunctuationConnector, isAlphanumeric, isWordCharacter, isPlaceholderNameCharacter}
-use Rattle.unicode.specs.Ascii.{isLetter, isSpace, asciiKind}
+use Rattle.unicode.specs.Ascii.{isLetter, isSpace, asciiKind, isAsciiWord}
+use Rattle.unicode.proofs.Below.{allBelow, below}
 use Rattle.unicode.proofs.Within.{above-not}
 
 -- ---- the computed test
-
--- f passes at each number below n
-abbrev allBelow : (ℕ → Bool) → ℕ → Bool
-allBelow f zero = true
-allBelow f (suc n) = f n && allBelow f n
-
-below : (f : ℕ → Bool) (n : ℕ) → allBelow f n ≡ true → (k : ℕ) → k < n → f k ≡ true
-below f zero e k h = absurd (not-suc-le-zero h)
-below f (suc n) e k h =
-    let both = and-eq-true-iff (f n) (allBelow f n) .0 e in
-    ⊎-elim (λ q. rw q (both .0)) (λ l. below f n (both .1) k l) (eq-or-lt-of-le (le-of-suc-le-suc h))
 
 same : (a b : Bool) → Bool·beq a b ≡ true → a ≡ b
 same true true e = refl
@@ -86,6 +74,10 @@ rule-most c = go (isLetter c) (within 0x30 0x39 c) (eqb c 0x5F) (isSpace c)
     go false false true e = omega arith
     go false false false true = omega arith
     go false false false false = omega arith
+
+no-space : (c : ℕ) → 128 ≤ c → isSpace c ≡ false
+unfolding isSpace
+no-space c h = rw (above-not 9 13 c (omega arith), ne-eqb c 32 (λ e. omega arith))
 
 -- from 128 on it is 0
 rule-ascii : (c : ℕ) → 128 ≤ c → asciiKind c ≡ 0
@@ -144,21 +136,40 @@ module _ (c : ℕ) (h : c < 128) where
 
 -- ---- of every byte: an ASCII character of a class
 
+-- letters, digits and the underscore are no whitespace
+space-apart : allBelow (λ c. Bool·beq (isSpace c) (eqb (asciiKind c) 1)) 128 ≡ true
+unfolding asciiKind isLetter isSpace within
+space-apart = refl
+
+-- the numbers of word characters come last
+word-kind : (c : ℕ) → isAsciiWord c ≡ leb 2 (asciiKind c)
+unfolding isAsciiWord asciiKind
+word-kind c = go (isLetter c) (within 0x30 0x39 c) (eqb c 0x5F) (isSpace c)
+  where
+    go : (a b d e : Bool) → (a || (b || d)) ≡ leb 2 (cond a 2 (cond b 3 (cond d 4 (cond e 1 0))))
+    go true b d e = refl
+    go false true d e = refl
+    go false false true e = refl
+    go false false false true = refl
+    go false false false false = refl
+
+pub space-byte : (c : ℕ) → isSpace c ≡ (ltb c 128 && isWhitespace c)
+space-byte c = go (ltb c 128) refl
+  where
+    go : (t : Bool) → ltb c 128 ≡ t → isSpace c ≡ (t && isWhitespace c)
+    go true e =
+        same _ _ (below (λ k. Bool·beq (isSpace k) (eqb (asciiKind k) 1)) 128 space-apart c (ltb-true c 128 e))
+        ∙ ascii-whitespace c (ltb-true c 128 e) (asciiKind c) refl
+    go false e = no-space c (ltb-false c 128 e)
+
+pub word-byte : (c : ℕ) → isAsciiWord c ≡ (ltb c 128 && isWordCharacter c)
+word-byte c = go (ltb c 128) refl
+  where
+    go : (t : Bool) → ltb c 128 ≡ t → isAsciiWord c ≡ (t && isWordCharacter c)
+    go true e = word-kind c ∙ ascii-word c (ltb-true c 128 e) (asciiKind c) refl
+    go false e = word-kind c ∙ ap (leb 2) (rule-ascii c (ltb-false c 128 e))
+
 module _ (c r : ℕ) (q : r ≡ asciiKind c) where
-  pub white-byte : eqb r 1 ≡ (ltb c 128 && isWhitespace c)
-  white-byte = go (ltb c 128) refl
-    where
-      go : (t : Bool) → ltb c 128 ≡ t → eqb r 1 ≡ (t && isWhitespace c)
-      go true e = ascii-whitespace c (ltb-true c 128 e) r q
-      go false e = rw (q, rule-ascii c (ltb-false c 128 e))
-
-  pub word-byte : leb 2 r ≡ (ltb c 128 && isWordCharacter c)
-  word-byte = go (ltb c 128) refl
-    where
-      go : (t : Bool) → ltb c 128 ≡ t → leb 2 r ≡ (t && isWordCharacter c)
-      go true e = ascii-word c (ltb-true c 128 e) r q
-      go false e = rw (q, rule-ascii c (ltb-false c 128 e))
-
   pub name-byte : (eqb r 2 || (eqb r 3 || (eqb c 0x2E || (eqb c 0x5F || eqb c 0x24)))) ≡ (ltb c 128 && isPlaceholderNameCharacter c)
   name-byte = go (ltb c 128) refl
     where

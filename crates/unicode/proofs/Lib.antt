@@ -5,10 +5,13 @@ pub mod Ordered
 pub mod AsciiBlocks
 pub mod SequenceRows
 pub mod FirstIllFormed
+pub mod Below
 pub mod AsciiRule
 pub mod Decoding
 pub mod ShortCircuit
 pub mod Within
+pub mod CommonLetters
+pub mod WhiteStarts
 pub mod ClassesApart
 pub mod Rests
 pub mod WellFormedSteps

@@ -1,7 +1,7 @@
 -- `a || b` and `a && b` in code: the second is asked only where the first does not decide.
 -- Assumes nothing.
-use mathlib.Core.Path.{_≡_}
-use mathlib.Core.Bool.{Bool, true, false, _&&_, _||_}
+use mathlib.Core.Path.{_≡_, sym, _∙_}
+use mathlib.Core.Bool.{Bool, true, false, _&&_, _||_, or-false}
 
 module _ (a b r : Bool) (e : r ≡ a) where
   pub or-first : r ≡ true → r ≡ (a || b)
@@ -15,3 +15,7 @@ module _ (a b r : Bool) (e : r ≡ a) where
 
   pub and-second : (q : Bool) → r ≡ true → q ≡ b → q ≡ (a && b)
   and-second q t f = rw (← e, t) f
+
+-- the last of some
+pub or-last : (a r : Bool) → r ≡ a → r ≡ (a || false)
+or-last a r e = e ∙ sym (or-false a)

@@ -16,3 +16,7 @@ isSpace c = within 9 13 c || eqb c 32
 -- letters, digits, the underscore, whitespace
 unfoldable pub asciiKind : ℕ → ℕ
 asciiKind c = cond (isLetter c) 2 (cond (within 0x30 0x39 c) 3 (cond (eqb c 0x5F) 4 (cond (isSpace c) 1 0)))
+
+-- a word character among them
+unfoldable pub isAsciiWord : ℕ → Bool
+isAsciiWord c = isLetter c || (within 0x30 0x39 c || eqb c 0x5F)

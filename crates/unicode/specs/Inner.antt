@@ -2,3 +2,4 @@
 pub mod Ends
 pub mod Blocks
 pub mod RunAt
+pub mod CommonLetters

@@ -1,7 +1,8 @@
 // What an ASCII character is, by rule.
+use crate::ranges::within;
 ghost use mathlib.Core.Path.{_≡_};
 ghost use Rattle.unicode.specs.Ranges.{within};
-ghost use Rattle.unicode.specs.Ascii.{isLetter, isSpace, asciiKind};
+ghost use Rattle.unicode.specs.Ascii.{isLetter, isSpace, asciiKind, isAsciiWord};
 
 pub const WHITE_SPACE: u8 = 1;
 
@@ -11,19 +12,13 @@ pub const NUMERIC: u8 = 3;
 
 pub const CONNECTOR: u8 = 4;
 
-fn within(first: u32, last: u32, c: u32) -> bool
-    ensures { λ r. ⌜ r ≡ within first last c ⌝ }
-{
-    first <= c && c <= last
-}
-
 fn is_letter(c: u32) -> bool
     ensures { λ r. ⌜ r ≡ isLetter c ⌝ }
 {
     within(0x41, 0x5A, c) || within(0x61, 0x7A, c)
 }
 
-fn is_space(c: u32) -> bool
+pub fn is_space(c: u32) -> bool
     ensures { λ r. ⌜ r ≡ isSpace c ⌝ }
 {
     within(0x09, 0x0D, c) || c == 0x20
@@ -45,4 +40,12 @@ pub fn ascii_kind(c: u32) -> u8
         return WHITE_SPACE;
     }
     0
+}
+
+// A word character that is ASCII.
+pub fn is_ascii_word(b: u8) -> bool
+    ensures { λ r. ⌜ r ≡ isAsciiWord b ⌝ }
+{
+    let c = b as u32;
+    is_letter(c) || (within(0x30, 0x39, c) || c == 0x5F)
 }

@@ -5,8 +5,11 @@ use crate::ascii::ascii_kind;
 use crate::connector;
 use crate::mark;
 use crate::numeric;
+use crate::ranges::within;
 use crate::white_space;
 ghost use mathlib.Core.Path.{_≡_};
+ghost use Rattle.unicode.specs.Ranges.{inRanges};
+ghost use Rattle.unicode.specs.Inner.CommonLetters.{westernLetters, easternLetters};
 ghost use Rattle.unicode.specs.Classes.{isWhitespace, isAlphabetic, isNumeric, isMark, isPunctuationConnector, isAlphanumeric, isWordCharacter, isPlaceholderNameCharacter};
 
 pub fn is_whitespace(c: u32) -> bool
@@ -18,11 +21,34 @@ pub fn is_whitespace(c: u32) -> bool
     white_space::contains(c)
 }
 
+// Latin, Greek and Cyrillic letters beyond ASCII, but for some: they need no table.
+fn is_western_letter(c: u32) -> bool
+    ensures { λ r. ⌜ r ≡ inRanges westernLetters c ⌝ }
+{
+    within(0xC0, 0xD6, c)
+        || (within(0xD8, 0xF6, c)
+            || (within(0xF8, 0x2C1, c) || (within(0x3A3, 0x3F5, c) || within(0x3F7, 0x481, c))))
+}
+
+// Kana, Chinese and Korean ones.
+fn is_eastern_letter(c: u32) -> bool
+    ensures { λ r. ⌜ r ≡ inRanges easternLetters c ⌝ }
+{
+    within(0x3041, 0x3096, c)
+        || (within(0x30A1, 0x30FA, c) || (within(0x4E00, 0xA48C, c) || within(0xAC00, 0xD7A3, c)))
+}
+
 pub fn is_alphabetic(c: u32) -> bool
     ensures { λ r. ⌜ r ≡ isAlphabetic c ⌝ }
 {
     if c < 128 {
         return ascii_kind(c) == ascii::ALPHABETIC;
+    }
+    if is_western_letter(c) {
+        return true;
+    }
+    if is_eastern_letter(c) {
+        return true;
     }
     alphabetic::contains(c)
 }

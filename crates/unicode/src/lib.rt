@@ -12,6 +12,7 @@ mod runs;
 mod utf8;
 mod white_space;
 
+pub use ascii::is_ascii_word;
 pub use classes::is_alphabetic;
 pub use classes::is_alphanumeric;
 pub use classes::is_mark;
@@ -21,6 +22,7 @@ pub use classes::is_punctuation_connector;
 pub use classes::is_whitespace;
 pub use classes::is_word_character;
 pub use decode::character_at;
+pub use runs::run_from;
 pub use runs::run_of;
 pub use utf8::first_ill_formed;
 
@@ -36,7 +38,7 @@ pub struct Character {
     pub len: usize,
 }
 
-// The classes of which 000 takes runs.
+// The classes of which `run_of` takes runs.
 pub enum Class {
     Whitespace,
     Word,

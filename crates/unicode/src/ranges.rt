@@ -1,8 +1,15 @@
-// Lookup in ranges that are laid out as their ends.
+// One range of code points, and lookup in ranges that are laid out as their ends.
 ghost use mathlib.Core.Path.{_≡_};
 ghost use mathlib.Core.Bool.{true};
 ghost use Prim.Native.Nat.{_+_};
+ghost use Rattle.unicode.specs.Ranges.{within};
 ghost use Rattle.unicode.specs.Inner.Ends.{inEnds, ascending, EndsUpTo};
+
+pub fn within(first: u32, last: u32, c: u32) -> bool
+    ensures { λ r. ⌜ r ≡ within first last c ⌝ }
+{
+    first <= c && c <= last
+}
 
 // How many of the ends are at most c.
 fn ends_up_to(ends: &[u32], c: u32) -> usize

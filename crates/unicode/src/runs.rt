@@ -2,6 +2,8 @@
 use crate::Class;
 use crate::ascii;
 use crate::ascii::ascii_kind;
+use crate::ascii::is_ascii_word;
+use crate::ascii::is_space;
 use crate::classes::is_placeholder_name_character;
 use crate::classes::is_whitespace;
 use crate::classes::is_word_character;
@@ -38,8 +40,8 @@ fn ascii_contains(class: Class, b: u8) -> bool
     ensures { λ r. ⌜ r ≡ (ltb b 128 && inClass class b) ⌝ }
 {
     match class {
-        Class::Whitespace => ascii_kind(b as u32) == ascii::WHITE_SPACE,
-        Class::Word => ascii::ALPHABETIC <= ascii_kind(b as u32),
+        Class::Whitespace => is_space(b as u32),
+        Class::Word => is_ascii_word(b),
         Class::PlaceholderName => ascii_name_contains(b),
     }
 }
@@ -64,7 +66,7 @@ fn step(bytes: &[u8], i: usize, class: Class) -> usize
 }
 
 // The same run, from a place that it reaches on.
-fn rest_of_run(bytes: &[u8], from: usize, class: Class) -> usize
+pub fn run_from(bytes: &[u8], from: usize, class: Class) -> usize
     requires { ⌜ RunAt class (now bytes) from ⌝ }
     ensures { λ r. ⌜ r ≡ run (inClass class) 0 (now (bytes .entry)) ⌝ }
 {
@@ -92,7 +94,7 @@ pub fn run_of(bytes: &[u8], class: Class) -> usize
             if b < 128 {
                 return i;
             }
-            return rest_of_run(bytes, i, class);
+            return run_from(bytes, i, class);
         }
     }
     i

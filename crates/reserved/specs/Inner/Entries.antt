@@ -5,18 +5,17 @@ use mathlib.Core.Bool.{Bool, true, false, cond, _||_}
 use mathlib.Core.List.{List, [], _∷_, _++_}
 use lib.Dec.{leb, eqb}
 use lib.ListN.{length, take, getD}
+use Rattle.unicode.specs.Ascii.{isAsciiWord}
 use Rattle.recognisers.specs.declared.Taken.{Taken}
 use Rattle.recognisers.specs.declared.Taken.the-variants.{Bytes, Fails}
 use Rattle.recognisers.specs.Text.{byte, bytes}
-use Rattle.recognisers.specs.Taking.{Taker, endOfWord}
+use Rattle.recognisers.specs.Taking.{Taker, endOfWord, count}
 use Rattle.recognisers.specs.declared.TokenKind.the-variants.{Reserved, ReservedTopLevelNoIndent, ReservedNewlineAfter, Join}
 use Rattle.recognisers.specs.declared.Recognised.{Recognised}
 use Rattle.recognisers.specs.declared.Recognised.the-variants as R
 use Rattle.recognisers.specs.Pieces.{tokenOf}
 use Rattle.reserved.specs.declared.TopLevel.{TopLevel}
 use Rattle.reserved.specs.Reserved.{topLevelToken, newlineToken}
-use Rattle.reserved.specs.declared.FoundPhrase.{FoundPhrase}
-use Rattle.reserved.specs.declared.FoundPhrase.the-variants.{Entry, Nothing}
 use Rattle.reserved.specs.Phrases.{Phrase, phrase, phraseIfExists, walk, optional}
 use Rattle.reserved.specs.TopLevel.{topLevelPhrases}
 use Rattle.reserved.specs.NewlineAfter.{newlineAfterPhrases}
@@ -49,6 +48,20 @@ ending false = endOfWord
 unfoldable pub entryEnd : ℕ → List ℕ → Taker
 entryEnd group words s = walk words (ending (eqb group (byte "D"))) s
 
+-- the entry that stands at the start of a text: its group's letter and how many bytes it takes
+pub data FoundPhrase : Type 0 where
+  Entry : ℕ → ℕ → FoundPhrase
+  Nothing : FoundPhrase
+
+-- how many bytes it takes; its group's letter, or what was there before
+abbrev pub lengthOf : FoundPhrase → ℕ
+lengthOf (Entry group n) = n
+lengthOf Nothing = 0
+
+abbrev pub groupOf : ℕ → FoundPhrase → ℕ
+groupOf before (Entry group n) = group
+groupOf before Nothing = before
+
 -- the entry where it stands in the text, else another answer
 abbrev pub chosen : ℕ → Taken → FoundPhrase → FoundPhrase
 chosen group (Bytes n) other = Entry group n
@@ -70,6 +83,11 @@ unfoldable pub entriesOf : ℕ → List (ℕ × List ℕ) → List (ℕ × List 
 entriesOf letter [] = []
 entriesOf letter (entry ∷ entries) =
     cond (eqb (getD (entry .1) 0 0) letter) (entry ∷ entriesOf letter entries) (entriesOf letter entries)
+
+-- those whose first word has this length
+unfoldable pub entriesLong : ℕ → List (ℕ × List ℕ) → List (ℕ × List ℕ)
+entriesLong n [] = []
+entriesLong n (entry ∷ entries) = cond (eqb (count isAsciiWord (entry .1)) n) (entry ∷ entriesLong n entries) (entriesLong n entries)
 
 -- the first entry of a table, where its first `passed` bytes belong to an entry that has been tried
 unfoldable pub tableFind : ℕ → List ℕ → List ℕ → FoundPhrase

@@ -1,34 +1,29 @@
 use borrow.Author.Needs.{needs}
-use Rattle.recognisers.specs.Number.{getNumberToken}
+use Rattle.recognisers.proofs.FirstBytes.{no-number}
 use Rattle.recognisers.proofs.numbers.get_number_token.Statement.{statement}
 use Rattle.recognisers.proofs.numbers.get_number_token.Tie as tie
 
-slice-aggregate-negative-number : tie.Need-slice-aggregate-negative-number
-slice-aggregate-negative-number c = search needs
+slice-aggregate-starts-among : tie.Need-slice-aggregate-starts-among
+slice-aggregate-starts-among c = search needs
 
-negative-number-requires : tie.Need-negative-number-requires
-negative-number-requires c κs = search needs
+starts-among-requires : tie.Need-starts-among-requires
+starts-among-requires c κs = search needs
 
-unsigned-number-requires : tie.Need-unsigned-number-requires
-unsigned-number-requires c κs = search needs
-
-first-of-requires : tie.Need-first-of-requires
-first-of-requires c κs = search needs
-
-token-of-requires : tie.Need-token-of-requires
-token-of-requires c κs = search needs
+try-number-requires : tie.Need-try-number-requires
+try-number-requires c κs = search needs
 
 returns : tie.Need-returns
-unfolding getNumberToken
-returns c = cc
+returns c = search needs
+
+returns-2 : tie.Need-returns-2
+returns-2 c = search no-number
 
 pub get-number-token-spec : {M : Type 1} → statement M
 get-number-token-spec =
     tie.close
     (tie.spec
-    slice-aggregate-negative-number
-    negative-number-requires
-    unsigned-number-requires
-    first-of-requires
-    token-of-requires
-    returns)
+    slice-aggregate-starts-among
+    starts-among-requires
+    try-number-requires
+    returns
+    returns-2)

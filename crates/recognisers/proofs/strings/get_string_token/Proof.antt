@@ -1,40 +1,29 @@
-use mathlib.Core.Path.{sym}
-use lib.Seq.{length-take-le}
 use borrow.Author.Needs.{needs}
-use Rattle.recognisers.proofs.EscapedQuotes.{string-token, string-nothing}
-use Rattle.recognisers.proofs.PieceSizes.{string-fits}
+use Rattle.recognisers.proofs.FirstBytes.{no-string}
 use Rattle.recognisers.proofs.strings.get_string_token.Statement.{statement}
 use Rattle.recognisers.proofs.strings.get_string_token.Tie as tie
 
-string-taken-requires : tie.Need-string-taken-requires
-string-taken-requires c κs = search needs
+slice-aggregate-starts-among : tie.Need-slice-aggregate-starts-among
+slice-aggregate-starts-among c = search needs
 
-enum-known-n : tie.Need-enum-known-n
-enum-known-n c = search needs
+starts-among-requires : tie.Need-starts-among-requires
+starts-among-requires c κs = search needs
 
-slice-aggregate-string-pairs : tie.Need-slice-aggregate-string-pairs
-slice-aggregate-string-pairs c = sym (length-take-le _ _ (search string-fits))
-
-string-pairs-requires : tie.Need-string-pairs-requires
-string-pairs-requires c κs = search needs
-
-enum-told : tie.Need-enum-told
-enum-told c = search needs
+try-string-requires : tie.Need-try-string-requires
+try-string-requires c κs = search needs
 
 returns : tie.Need-returns
-returns c = search string-token
+returns c = search needs
 
 returns-2 : tie.Need-returns-2
-returns-2 c = search string-nothing
+returns-2 c = search no-string
 
 pub get-string-token-spec : {M : Type 1} → statement M
 get-string-token-spec =
     tie.close
     (tie.spec
-    string-taken-requires
-    enum-known-n
-    slice-aggregate-string-pairs
-    string-pairs-requires
-    enum-told
+    slice-aggregate-starts-among
+    starts-among-requires
+    try-string-requires
     returns
     returns-2)

@@ -1,22 +1,29 @@
 use borrow.Author.Needs.{needs}
-use Rattle.recognisers.specs.Words.{getWhitespaceToken}
-use Rattle.unicode.specs.Runs.{inClass}
+use Rattle.recognisers.proofs.FirstBytes.{no-whitespace}
 use Rattle.recognisers.proofs.words.get_whitespace_token.Statement.{statement}
 use Rattle.recognisers.proofs.words.get_whitespace_token.Tie as tie
 
-run-of-requires : tie.Need-run-of-requires
-run-of-requires c κs = search needs
+slice-aggregate-starts-among : tie.Need-slice-aggregate-starts-among
+slice-aggregate-starts-among c = search needs
 
-at-least-requires : tie.Need-at-least-requires
-at-least-requires c κs = search needs
+starts-among-requires : tie.Need-starts-among-requires
+starts-among-requires c κs = search needs
 
-token-of-requires : tie.Need-token-of-requires
-token-of-requires c κs = search needs
+try-whitespace-requires : tie.Need-try-whitespace-requires
+try-whitespace-requires c κs = search needs
 
 returns : tie.Need-returns
-unfolding getWhitespaceToken inClass
-returns c = cc
+returns c = search needs
+
+returns-2 : tie.Need-returns-2
+returns-2 c = search no-whitespace
 
 pub get-whitespace-token-spec : {M : Type 1} → statement M
 get-whitespace-token-spec =
-    tie.close (tie.spec run-of-requires at-least-requires token-of-requires returns)
+    tie.close
+    (tie.spec
+    slice-aggregate-starts-among
+    starts-among-requires
+    try-whitespace-requires
+    returns
+    returns-2)

@@ -1,11 +1,10 @@
 use borrow.Author.Needs.{needs}
 use Rattle.recognisers.specs.Words.{getWordToken}
-use Rattle.unicode.specs.Runs.{inClass}
 use Rattle.recognisers.proofs.words.get_word_token.Statement.{statement}
 use Rattle.recognisers.proofs.words.get_word_token.Tie as tie
 
-run-of-requires : tie.Need-run-of-requires
-run-of-requires c κs = search needs
+word-end-requires : tie.Need-word-end-requires
+word-end-requires c κs = search needs
 
 at-least-requires : tie.Need-at-least-requires
 at-least-requires c κs = search needs
@@ -14,9 +13,9 @@ token-of-requires : tie.Need-token-of-requires
 token-of-requires c κs = search needs
 
 returns : tie.Need-returns
-unfolding getWordToken inClass
+unfolding getWordToken
 returns c = cc
 
 pub get-word-token-spec : {M : Type 1} → statement M
 get-word-token-spec =
-    tie.close (tie.spec run-of-requires at-least-requires token-of-requires returns)
+    tie.close (tie.spec word-end-requires at-least-requires token-of-requires returns)

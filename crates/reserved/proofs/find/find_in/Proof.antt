@@ -1,23 +1,24 @@
 use Prim.Native.Nat.{_-_}
+use mathlib.Core.Path.{_≡_, refl}
 use lib.ListN.{length}
 use borrow.Author.Needs.{needs}
 use Rattle.reserved.specs.Inner.Gaps.{Measured}
-use Rattle.reserved.proofs.FirstEntry.{FindAt, find-start, find-cut, find-here, find-next, find-end}
+use Rattle.reserved.proofs.FirstEntry.{FindAt, find-start, cut-length, cut-group, find-here, group-here, find-next, end-length, end-group}
 use Rattle.reserved.proofs.MeasuredGaps.{six-gaps}
 use Rattle.reserved.proofs.find.find_in.Statement.{statement}
 use Rattle.reserved.proofs.find.find_in.Tie as tie
 
 abbrev Inv-loop : tie.InvT-loop
-Inv-loop table rest gaps₀ at₀ gaps at = FindAt table rest at × Measured gaps rest
+Inv-loop table rest found₀ gaps₀ at₀ found gaps at = FindAt table rest at × (Measured gaps rest × found ≡ found₀)
 
 abbrev μ-loop : tie.MeasureT-loop
-μ-loop table rest gaps₀ at₀ gaps at = length table - at
+μ-loop table rest found₀ gaps₀ at₀ found gaps at = length table - at
 
 no-gaps-requires : tie.Need-no-gaps-requires Inv-loop μ-loop
 no-gaps-requires c κs = search needs
 
 loop-holds : tie.Need-loop-holds Inv-loop μ-loop
-loop-holds c = (search find-start, search needs)
+loop-holds c = (search find-start, (search needs, refl))
 
 add-loop : tie.Need-add-loop Inv-loop μ-loop
 add-loop c = search needs
@@ -41,7 +42,7 @@ sub-if1 : tie.Need-sub-if1 Inv-loop μ-loop
 sub-if1 c = search needs
 
 returns : tie.Need-returns Inv-loop μ-loop
-returns c = search find-cut
+returns c = (search cut-length, search cut-group)
 
 add-end : tie.Need-add-end Inv-loop μ-loop
 add-end c = search needs
@@ -65,7 +66,7 @@ enum-known-len : tie.Need-enum-known-len Inv-loop μ-loop
 enum-known-len c = search needs
 
 returns-2 : tie.Need-returns-2 Inv-loop μ-loop
-returns-2 c = search find-here
+returns-2 c = (search find-here, search group-here)
 
 enum-told : tie.Need-enum-told Inv-loop μ-loop
 enum-told c = search needs
@@ -74,10 +75,10 @@ loop-less : tie.Need-loop-less Inv-loop μ-loop
 loop-less c = search needs
 
 loop-again : tie.Need-loop-again Inv-loop μ-loop
-loop-again c = (search find-next, search needs)
+loop-again c = (search find-next, (search needs, search needs))
 
 returns-3 : tie.Need-returns-3 Inv-loop μ-loop
-returns-3 c = search find-end
+returns-3 c = (search end-length, search end-group)
 
 pub find-in-spec : {M : Type 1} → statement M
 find-in-spec =

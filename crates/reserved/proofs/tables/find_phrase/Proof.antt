@@ -1,6 +1,6 @@
 use Prim.Native.Nat.{ℕ}
 use mathlib.Core.List.{List, [], _∷_}
-use mathlib.Core.Path.{refl}
+use mathlib.Core.Path.{ap, refl, _∙_}
 use borrow.Author.Needs.{needs}
 use Rattle.recognisers.specs.Taking.{contains}
 use Rattle.reserved.specs.Phrases.{each}
@@ -10,13 +10,13 @@ use Rattle.reserved.specs.Newline.{newlinePhrases}
 use Rattle.reserved.specs.Join.{joinPhrases}
 use Rattle.reserved.specs.NoIndent.{noIndentPhrases}
 use Rattle.reserved.specs.Plain.{plainTwoPhrases, plainOnePhrases, plainA, plainB, plainC, plainD, plainE, plainF, plainG, plainH, plainI, plainK, plainL, plainM, plainN, plainO, plainP, plainQ, plainR, plainS, plainT, plainU, plainV, plainW, plainY}
-use Rattle.reserved.specs.Inner.Entries.{grouped, entries, encoded, entriesOf}
-use Rattle.reserved.proofs.FirstEntry.{letter-is, none-is, empty-is}
+use Rattle.reserved.specs.Inner.Entries.{lengthOf, groupOf, grouped, entries}
+use Rattle.reserved.proofs.FirstEntry.{letter-is, none-is, empty-length, empty-group}
 use Rattle.reserved.proofs.tables.find_phrase.Statement.{statement}
 use Rattle.reserved.proofs.tables.find_phrase.Tie as tie
 
 returns : tie.Need-returns
-returns c = search empty-is
+returns c = (search empty-length, search empty-group)
 
 shared-slice-read-capital-of : tie.Need-shared-slice-read-capital-of
 shared-slice-read-capital-of c = search needs
@@ -24,272 +24,222 @@ shared-slice-read-capital-of c = search needs
 capital-of-requires : tie.Need-capital-of-requires
 capital-of-requires c κs = search needs
 
-slice-aggregate-find-in : tie.Need-slice-aggregate-find-in
-slice-aggregate-find-in c = search needs
+find-dollar-requires : tie.Need-find-dollar-requires
+find-dollar-requires c κs = search needs
 
-find-in-requires : tie.Need-find-in-requires
-find-in-requires c κs = search needs
+find-a-requires : tie.Need-find-a-requires
+find-a-requires c κs = search needs
 
-slice-aggregate-find-in-2 : tie.Need-slice-aggregate-find-in-2
-slice-aggregate-find-in-2 c = search needs
+find-b-requires : tie.Need-find-b-requires
+find-b-requires c κs = search needs
 
-find-in-requires-2 : tie.Need-find-in-requires-2
-find-in-requires-2 c κs = search needs
+find-c-requires : tie.Need-find-c-requires
+find-c-requires c κs = search needs
 
-slice-aggregate-find-in-3 : tie.Need-slice-aggregate-find-in-3
-slice-aggregate-find-in-3 c = search needs
+find-d-requires : tie.Need-find-d-requires
+find-d-requires c κs = search needs
 
-find-in-requires-3 : tie.Need-find-in-requires-3
-find-in-requires-3 c κs = search needs
+find-e-requires : tie.Need-find-e-requires
+find-e-requires c κs = search needs
 
-slice-aggregate-find-in-4 : tie.Need-slice-aggregate-find-in-4
-slice-aggregate-find-in-4 c = search needs
+find-f-requires : tie.Need-find-f-requires
+find-f-requires c κs = search needs
 
-find-in-requires-4 : tie.Need-find-in-requires-4
-find-in-requires-4 c κs = search needs
+find-g-requires : tie.Need-find-g-requires
+find-g-requires c κs = search needs
 
-slice-aggregate-find-in-5 : tie.Need-slice-aggregate-find-in-5
-slice-aggregate-find-in-5 c = search needs
+find-h-requires : tie.Need-find-h-requires
+find-h-requires c κs = search needs
 
-find-in-requires-5 : tie.Need-find-in-requires-5
-find-in-requires-5 c κs = search needs
+find-i-requires : tie.Need-find-i-requires
+find-i-requires c κs = search needs
 
-slice-aggregate-find-in-6 : tie.Need-slice-aggregate-find-in-6
-slice-aggregate-find-in-6 c = search needs
+find-j-requires : tie.Need-find-j-requires
+find-j-requires c κs = search needs
 
-find-in-requires-6 : tie.Need-find-in-requires-6
-find-in-requires-6 c κs = search needs
+find-k-requires : tie.Need-find-k-requires
+find-k-requires c κs = search needs
 
-slice-aggregate-find-in-7 : tie.Need-slice-aggregate-find-in-7
-slice-aggregate-find-in-7 c = search needs
+find-l-requires : tie.Need-find-l-requires
+find-l-requires c κs = search needs
 
-find-in-requires-7 : tie.Need-find-in-requires-7
-find-in-requires-7 c κs = search needs
+find-m-requires : tie.Need-find-m-requires
+find-m-requires c κs = search needs
 
-slice-aggregate-find-in-8 : tie.Need-slice-aggregate-find-in-8
-slice-aggregate-find-in-8 c = search needs
+find-n-requires : tie.Need-find-n-requires
+find-n-requires c κs = search needs
 
-find-in-requires-8 : tie.Need-find-in-requires-8
-find-in-requires-8 c κs = search needs
+find-o-requires : tie.Need-find-o-requires
+find-o-requires c κs = search needs
 
-slice-aggregate-find-in-9 : tie.Need-slice-aggregate-find-in-9
-slice-aggregate-find-in-9 c = search needs
+find-p-requires : tie.Need-find-p-requires
+find-p-requires c κs = search needs
 
-find-in-requires-9 : tie.Need-find-in-requires-9
-find-in-requires-9 c κs = search needs
+find-q-requires : tie.Need-find-q-requires
+find-q-requires c κs = search needs
 
-slice-aggregate-find-in-10 : tie.Need-slice-aggregate-find-in-10
-slice-aggregate-find-in-10 c = search needs
+find-r-requires : tie.Need-find-r-requires
+find-r-requires c κs = search needs
 
-find-in-requires-10 : tie.Need-find-in-requires-10
-find-in-requires-10 c κs = search needs
+find-s-requires : tie.Need-find-s-requires
+find-s-requires c κs = search needs
 
-slice-aggregate-find-in-11 : tie.Need-slice-aggregate-find-in-11
-slice-aggregate-find-in-11 c = search needs
+find-t-requires : tie.Need-find-t-requires
+find-t-requires c κs = search needs
 
-find-in-requires-11 : tie.Need-find-in-requires-11
-find-in-requires-11 c κs = search needs
+find-u-requires : tie.Need-find-u-requires
+find-u-requires c κs = search needs
 
-slice-aggregate-find-in-12 : tie.Need-slice-aggregate-find-in-12
-slice-aggregate-find-in-12 c = search needs
+find-v-requires : tie.Need-find-v-requires
+find-v-requires c κs = search needs
 
-find-in-requires-12 : tie.Need-find-in-requires-12
-find-in-requires-12 c κs = search needs
+find-w-requires : tie.Need-find-w-requires
+find-w-requires c κs = search needs
 
-slice-aggregate-find-in-13 : tie.Need-slice-aggregate-find-in-13
-slice-aggregate-find-in-13 c = search needs
+find-x-requires : tie.Need-find-x-requires
+find-x-requires c κs = search needs
 
-find-in-requires-13 : tie.Need-find-in-requires-13
-find-in-requires-13 c κs = search needs
-
-slice-aggregate-find-in-14 : tie.Need-slice-aggregate-find-in-14
-slice-aggregate-find-in-14 c = search needs
-
-find-in-requires-14 : tie.Need-find-in-requires-14
-find-in-requires-14 c κs = search needs
-
-slice-aggregate-find-in-15 : tie.Need-slice-aggregate-find-in-15
-slice-aggregate-find-in-15 c = search needs
-
-find-in-requires-15 : tie.Need-find-in-requires-15
-find-in-requires-15 c κs = search needs
-
-slice-aggregate-find-in-16 : tie.Need-slice-aggregate-find-in-16
-slice-aggregate-find-in-16 c = search needs
-
-find-in-requires-16 : tie.Need-find-in-requires-16
-find-in-requires-16 c κs = search needs
-
-slice-aggregate-find-in-17 : tie.Need-slice-aggregate-find-in-17
-slice-aggregate-find-in-17 c = search needs
-
-find-in-requires-17 : tie.Need-find-in-requires-17
-find-in-requires-17 c κs = search needs
-
-slice-aggregate-find-in-18 : tie.Need-slice-aggregate-find-in-18
-slice-aggregate-find-in-18 c = search needs
-
-find-in-requires-18 : tie.Need-find-in-requires-18
-find-in-requires-18 c κs = search needs
-
-slice-aggregate-find-in-19 : tie.Need-slice-aggregate-find-in-19
-slice-aggregate-find-in-19 c = search needs
-
-find-in-requires-19 : tie.Need-find-in-requires-19
-find-in-requires-19 c κs = search needs
-
-slice-aggregate-find-in-20 : tie.Need-slice-aggregate-find-in-20
-slice-aggregate-find-in-20 c = search needs
-
-find-in-requires-20 : tie.Need-find-in-requires-20
-find-in-requires-20 c κs = search needs
-
-slice-aggregate-find-in-21 : tie.Need-slice-aggregate-find-in-21
-slice-aggregate-find-in-21 c = search needs
-
-find-in-requires-21 : tie.Need-find-in-requires-21
-find-in-requires-21 c κs = search needs
-
-slice-aggregate-find-in-22 : tie.Need-slice-aggregate-find-in-22
-slice-aggregate-find-in-22 c = search needs
-
-find-in-requires-22 : tie.Need-find-in-requires-22
-find-in-requires-22 c κs = search needs
-
-slice-aggregate-find-in-23 : tie.Need-slice-aggregate-find-in-23
-slice-aggregate-find-in-23 c = search needs
-
-find-in-requires-23 : tie.Need-find-in-requires-23
-find-in-requires-23 c κs = search needs
-
-slice-aggregate-find-in-24 : tie.Need-slice-aggregate-find-in-24
-slice-aggregate-find-in-24 c = search needs
-
-find-in-requires-24 : tie.Need-find-in-requires-24
-find-in-requires-24 c κs = search needs
-
-slice-aggregate-find-in-25 : tie.Need-slice-aggregate-find-in-25
-slice-aggregate-find-in-25 c = search needs
-
-find-in-requires-25 : tie.Need-find-in-requires-25
-find-in-requires-25 c κs = search needs
-
-slice-aggregate-find-in-26 : tie.Need-slice-aggregate-find-in-26
-slice-aggregate-find-in-26 c = search needs
-
-find-in-requires-26 : tie.Need-find-in-requires-26
-find-in-requires-26 c κs = search needs
+find-y-requires : tie.Need-find-y-requires
+find-y-requires c κs = search needs
 
 returns-2 : tie.Need-returns-2
-unfolding entries encoded entriesOf grouped topLevelPhrases creatable alterableOrDroppable each eachDropped newlineAfterPhrases newlinePhrases joinPhrases noIndentPhrases plainTwoPhrases plainOnePhrases plainA plainB plainC plainD plainE plainF plainG plainH plainI plainK plainL plainM plainN plainO plainP plainQ plainR plainS plainT plainU plainV plainW plainY
-returns-2 c = letter-is _ _ (c .before .before .before .capital-of .ensures) 36 _ (c .before .before .match .keys1) (c .find-in .ensures)
+returns-2 c =
+    let same = letter-is _ _ (c .before .before .before .capital-of .ensures) 36 (c .before .before .match .keys1) in
+    (c .find-dollar .ensures .0 ∙ ap lengthOf same, c .find-dollar .ensures .1 ∙ ap (groupOf _) same)
 
 returns-3 : tie.Need-returns-3
-unfolding entries encoded entriesOf grouped topLevelPhrases creatable alterableOrDroppable each eachDropped newlineAfterPhrases newlinePhrases joinPhrases noIndentPhrases plainTwoPhrases plainOnePhrases plainA plainB plainC plainD plainE plainF plainG plainH plainI plainK plainL plainM plainN plainO plainP plainQ plainR plainS plainT plainU plainV plainW plainY
-returns-3 c = letter-is _ _ (c .before .before .before .capital-of .ensures) 65 _ (c .before .before .match .keys2) (c .find-in2 .ensures)
+returns-3 c =
+    let same = letter-is _ _ (c .before .before .before .capital-of .ensures) 65 (c .before .before .match .keys2) in
+    (c .find-a .ensures .0 ∙ ap lengthOf same, c .find-a .ensures .1 ∙ ap (groupOf _) same)
 
 returns-4 : tie.Need-returns-4
-unfolding entries encoded entriesOf grouped topLevelPhrases creatable alterableOrDroppable each eachDropped newlineAfterPhrases newlinePhrases joinPhrases noIndentPhrases plainTwoPhrases plainOnePhrases plainA plainB plainC plainD plainE plainF plainG plainH plainI plainK plainL plainM plainN plainO plainP plainQ plainR plainS plainT plainU plainV plainW plainY
-returns-4 c = letter-is _ _ (c .before .before .before .capital-of .ensures) 66 _ (c .before .before .match .keys3) (c .find-in3 .ensures)
+returns-4 c =
+    let same = letter-is _ _ (c .before .before .before .capital-of .ensures) 66 (c .before .before .match .keys3) in
+    (c .find-b .ensures .0 ∙ ap lengthOf same, c .find-b .ensures .1 ∙ ap (groupOf _) same)
 
 returns-5 : tie.Need-returns-5
-unfolding entries encoded entriesOf grouped topLevelPhrases creatable alterableOrDroppable each eachDropped newlineAfterPhrases newlinePhrases joinPhrases noIndentPhrases plainTwoPhrases plainOnePhrases plainA plainB plainC plainD plainE plainF plainG plainH plainI plainK plainL plainM plainN plainO plainP plainQ plainR plainS plainT plainU plainV plainW plainY
-returns-5 c = letter-is _ _ (c .before .before .before .capital-of .ensures) 67 _ (c .before .before .match .keys4) (c .find-in4 .ensures)
+returns-5 c =
+    let same = letter-is _ _ (c .before .before .before .capital-of .ensures) 67 (c .before .before .match .keys4) in
+    (c .find-c .ensures .0 ∙ ap lengthOf same, c .find-c .ensures .1 ∙ ap (groupOf _) same)
 
 returns-6 : tie.Need-returns-6
-unfolding entries encoded entriesOf grouped topLevelPhrases creatable alterableOrDroppable each eachDropped newlineAfterPhrases newlinePhrases joinPhrases noIndentPhrases plainTwoPhrases plainOnePhrases plainA plainB plainC plainD plainE plainF plainG plainH plainI plainK plainL plainM plainN plainO plainP plainQ plainR plainS plainT plainU plainV plainW plainY
-returns-6 c = letter-is _ _ (c .before .before .before .capital-of .ensures) 68 _ (c .before .before .match .keys5) (c .find-in5 .ensures)
+returns-6 c =
+    let same = letter-is _ _ (c .before .before .before .capital-of .ensures) 68 (c .before .before .match .keys5) in
+    (c .find-d .ensures .0 ∙ ap lengthOf same, c .find-d .ensures .1 ∙ ap (groupOf _) same)
 
 returns-7 : tie.Need-returns-7
-unfolding entries encoded entriesOf grouped topLevelPhrases creatable alterableOrDroppable each eachDropped newlineAfterPhrases newlinePhrases joinPhrases noIndentPhrases plainTwoPhrases plainOnePhrases plainA plainB plainC plainD plainE plainF plainG plainH plainI plainK plainL plainM plainN plainO plainP plainQ plainR plainS plainT plainU plainV plainW plainY
-returns-7 c = letter-is _ _ (c .before .before .before .capital-of .ensures) 69 _ (c .before .before .match .keys6) (c .find-in6 .ensures)
+returns-7 c =
+    let same = letter-is _ _ (c .before .before .before .capital-of .ensures) 69 (c .before .before .match .keys6) in
+    (c .find-e .ensures .0 ∙ ap lengthOf same, c .find-e .ensures .1 ∙ ap (groupOf _) same)
 
 returns-8 : tie.Need-returns-8
-unfolding entries encoded entriesOf grouped topLevelPhrases creatable alterableOrDroppable each eachDropped newlineAfterPhrases newlinePhrases joinPhrases noIndentPhrases plainTwoPhrases plainOnePhrases plainA plainB plainC plainD plainE plainF plainG plainH plainI plainK plainL plainM plainN plainO plainP plainQ plainR plainS plainT plainU plainV plainW plainY
-returns-8 c = letter-is _ _ (c .before .before .before .capital-of .ensures) 70 _ (c .before .before .match .keys7) (c .find-in7 .ensures)
+returns-8 c =
+    let same = letter-is _ _ (c .before .before .before .capital-of .ensures) 70 (c .before .before .match .keys7) in
+    (c .find-f .ensures .0 ∙ ap lengthOf same, c .find-f .ensures .1 ∙ ap (groupOf _) same)
 
 returns-9 : tie.Need-returns-9
-unfolding entries encoded entriesOf grouped topLevelPhrases creatable alterableOrDroppable each eachDropped newlineAfterPhrases newlinePhrases joinPhrases noIndentPhrases plainTwoPhrases plainOnePhrases plainA plainB plainC plainD plainE plainF plainG plainH plainI plainK plainL plainM plainN plainO plainP plainQ plainR plainS plainT plainU plainV plainW plainY
-returns-9 c = letter-is _ _ (c .before .before .before .capital-of .ensures) 71 _ (c .before .before .match .keys8) (c .find-in8 .ensures)
+returns-9 c =
+    let same = letter-is _ _ (c .before .before .before .capital-of .ensures) 71 (c .before .before .match .keys8) in
+    (c .find-g .ensures .0 ∙ ap lengthOf same, c .find-g .ensures .1 ∙ ap (groupOf _) same)
 
 returns-10 : tie.Need-returns-10
-unfolding entries encoded entriesOf grouped topLevelPhrases creatable alterableOrDroppable each eachDropped newlineAfterPhrases newlinePhrases joinPhrases noIndentPhrases plainTwoPhrases plainOnePhrases plainA plainB plainC plainD plainE plainF plainG plainH plainI plainK plainL plainM plainN plainO plainP plainQ plainR plainS plainT plainU plainV plainW plainY
-returns-10 c = letter-is _ _ (c .before .before .before .capital-of .ensures) 72 _ (c .before .before .match .keys9) (c .find-in9 .ensures)
+returns-10 c =
+    let same = letter-is _ _ (c .before .before .before .capital-of .ensures) 72 (c .before .before .match .keys9) in
+    (c .find-h .ensures .0 ∙ ap lengthOf same, c .find-h .ensures .1 ∙ ap (groupOf _) same)
 
 returns-11 : tie.Need-returns-11
-unfolding entries encoded entriesOf grouped topLevelPhrases creatable alterableOrDroppable each eachDropped newlineAfterPhrases newlinePhrases joinPhrases noIndentPhrases plainTwoPhrases plainOnePhrases plainA plainB plainC plainD plainE plainF plainG plainH plainI plainK plainL plainM plainN plainO plainP plainQ plainR plainS plainT plainU plainV plainW plainY
-returns-11 c = letter-is _ _ (c .before .before .before .capital-of .ensures) 73 _ (c .before .before .match .keys10) (c .find-in10 .ensures)
+returns-11 c =
+    let same = letter-is _ _ (c .before .before .before .capital-of .ensures) 73 (c .before .before .match .keys10) in
+    (c .find-i .ensures .0 ∙ ap lengthOf same, c .find-i .ensures .1 ∙ ap (groupOf _) same)
 
 returns-12 : tie.Need-returns-12
-unfolding entries encoded entriesOf grouped topLevelPhrases creatable alterableOrDroppable each eachDropped newlineAfterPhrases newlinePhrases joinPhrases noIndentPhrases plainTwoPhrases plainOnePhrases plainA plainB plainC plainD plainE plainF plainG plainH plainI plainK plainL plainM plainN plainO plainP plainQ plainR plainS plainT plainU plainV plainW plainY
-returns-12 c = letter-is _ _ (c .before .before .before .capital-of .ensures) 74 _ (c .before .before .match .keys11) (c .find-in11 .ensures)
+returns-12 c =
+    let same = letter-is _ _ (c .before .before .before .capital-of .ensures) 74 (c .before .before .match .keys11) in
+    (c .find-j .ensures .0 ∙ ap lengthOf same, c .find-j .ensures .1 ∙ ap (groupOf _) same)
 
 returns-13 : tie.Need-returns-13
-unfolding entries encoded entriesOf grouped topLevelPhrases creatable alterableOrDroppable each eachDropped newlineAfterPhrases newlinePhrases joinPhrases noIndentPhrases plainTwoPhrases plainOnePhrases plainA plainB plainC plainD plainE plainF plainG plainH plainI plainK plainL plainM plainN plainO plainP plainQ plainR plainS plainT plainU plainV plainW plainY
-returns-13 c = letter-is _ _ (c .before .before .before .capital-of .ensures) 75 _ (c .before .before .match .keys12) (c .find-in12 .ensures)
+returns-13 c =
+    let same = letter-is _ _ (c .before .before .before .capital-of .ensures) 75 (c .before .before .match .keys12) in
+    (c .find-k .ensures .0 ∙ ap lengthOf same, c .find-k .ensures .1 ∙ ap (groupOf _) same)
 
 returns-14 : tie.Need-returns-14
-unfolding entries encoded entriesOf grouped topLevelPhrases creatable alterableOrDroppable each eachDropped newlineAfterPhrases newlinePhrases joinPhrases noIndentPhrases plainTwoPhrases plainOnePhrases plainA plainB plainC plainD plainE plainF plainG plainH plainI plainK plainL plainM plainN plainO plainP plainQ plainR plainS plainT plainU plainV plainW plainY
-returns-14 c = letter-is _ _ (c .before .before .before .capital-of .ensures) 76 _ (c .before .before .match .keys13) (c .find-in13 .ensures)
+returns-14 c =
+    let same = letter-is _ _ (c .before .before .before .capital-of .ensures) 76 (c .before .before .match .keys13) in
+    (c .find-l .ensures .0 ∙ ap lengthOf same, c .find-l .ensures .1 ∙ ap (groupOf _) same)
 
 returns-15 : tie.Need-returns-15
-unfolding entries encoded entriesOf grouped topLevelPhrases creatable alterableOrDroppable each eachDropped newlineAfterPhrases newlinePhrases joinPhrases noIndentPhrases plainTwoPhrases plainOnePhrases plainA plainB plainC plainD plainE plainF plainG plainH plainI plainK plainL plainM plainN plainO plainP plainQ plainR plainS plainT plainU plainV plainW plainY
-returns-15 c = letter-is _ _ (c .before .before .before .capital-of .ensures) 77 _ (c .before .before .match .keys14) (c .find-in14 .ensures)
+returns-15 c =
+    let same = letter-is _ _ (c .before .before .before .capital-of .ensures) 77 (c .before .before .match .keys14) in
+    (c .find-m .ensures .0 ∙ ap lengthOf same, c .find-m .ensures .1 ∙ ap (groupOf _) same)
 
 returns-16 : tie.Need-returns-16
-unfolding entries encoded entriesOf grouped topLevelPhrases creatable alterableOrDroppable each eachDropped newlineAfterPhrases newlinePhrases joinPhrases noIndentPhrases plainTwoPhrases plainOnePhrases plainA plainB plainC plainD plainE plainF plainG plainH plainI plainK plainL plainM plainN plainO plainP plainQ plainR plainS plainT plainU plainV plainW plainY
-returns-16 c = letter-is _ _ (c .before .before .before .capital-of .ensures) 78 _ (c .before .before .match .keys15) (c .find-in15 .ensures)
+returns-16 c =
+    let same = letter-is _ _ (c .before .before .before .capital-of .ensures) 78 (c .before .before .match .keys15) in
+    (c .find-n .ensures .0 ∙ ap lengthOf same, c .find-n .ensures .1 ∙ ap (groupOf _) same)
 
 returns-17 : tie.Need-returns-17
-unfolding entries encoded entriesOf grouped topLevelPhrases creatable alterableOrDroppable each eachDropped newlineAfterPhrases newlinePhrases joinPhrases noIndentPhrases plainTwoPhrases plainOnePhrases plainA plainB plainC plainD plainE plainF plainG plainH plainI plainK plainL plainM plainN plainO plainP plainQ plainR plainS plainT plainU plainV plainW plainY
-returns-17 c = letter-is _ _ (c .before .before .before .capital-of .ensures) 79 _ (c .before .before .match .keys16) (c .find-in16 .ensures)
+returns-17 c =
+    let same = letter-is _ _ (c .before .before .before .capital-of .ensures) 79 (c .before .before .match .keys16) in
+    (c .find-o .ensures .0 ∙ ap lengthOf same, c .find-o .ensures .1 ∙ ap (groupOf _) same)
 
 returns-18 : tie.Need-returns-18
-unfolding entries encoded entriesOf grouped topLevelPhrases creatable alterableOrDroppable each eachDropped newlineAfterPhrases newlinePhrases joinPhrases noIndentPhrases plainTwoPhrases plainOnePhrases plainA plainB plainC plainD plainE plainF plainG plainH plainI plainK plainL plainM plainN plainO plainP plainQ plainR plainS plainT plainU plainV plainW plainY
-returns-18 c = letter-is _ _ (c .before .before .before .capital-of .ensures) 80 _ (c .before .before .match .keys17) (c .find-in17 .ensures)
+returns-18 c =
+    let same = letter-is _ _ (c .before .before .before .capital-of .ensures) 80 (c .before .before .match .keys17) in
+    (c .find-p .ensures .0 ∙ ap lengthOf same, c .find-p .ensures .1 ∙ ap (groupOf _) same)
 
 returns-19 : tie.Need-returns-19
-unfolding entries encoded entriesOf grouped topLevelPhrases creatable alterableOrDroppable each eachDropped newlineAfterPhrases newlinePhrases joinPhrases noIndentPhrases plainTwoPhrases plainOnePhrases plainA plainB plainC plainD plainE plainF plainG plainH plainI plainK plainL plainM plainN plainO plainP plainQ plainR plainS plainT plainU plainV plainW plainY
-returns-19 c = letter-is _ _ (c .before .before .before .capital-of .ensures) 81 _ (c .before .before .match .keys18) (c .find-in18 .ensures)
+returns-19 c =
+    let same = letter-is _ _ (c .before .before .before .capital-of .ensures) 81 (c .before .before .match .keys18) in
+    (c .find-q .ensures .0 ∙ ap lengthOf same, c .find-q .ensures .1 ∙ ap (groupOf _) same)
 
 returns-20 : tie.Need-returns-20
-unfolding entries encoded entriesOf grouped topLevelPhrases creatable alterableOrDroppable each eachDropped newlineAfterPhrases newlinePhrases joinPhrases noIndentPhrases plainTwoPhrases plainOnePhrases plainA plainB plainC plainD plainE plainF plainG plainH plainI plainK plainL plainM plainN plainO plainP plainQ plainR plainS plainT plainU plainV plainW plainY
-returns-20 c = letter-is _ _ (c .before .before .before .capital-of .ensures) 82 _ (c .before .before .match .keys19) (c .find-in19 .ensures)
+returns-20 c =
+    let same = letter-is _ _ (c .before .before .before .capital-of .ensures) 82 (c .before .before .match .keys19) in
+    (c .find-r .ensures .0 ∙ ap lengthOf same, c .find-r .ensures .1 ∙ ap (groupOf _) same)
 
 returns-21 : tie.Need-returns-21
-unfolding entries encoded entriesOf grouped topLevelPhrases creatable alterableOrDroppable each eachDropped newlineAfterPhrases newlinePhrases joinPhrases noIndentPhrases plainTwoPhrases plainOnePhrases plainA plainB plainC plainD plainE plainF plainG plainH plainI plainK plainL plainM plainN plainO plainP plainQ plainR plainS plainT plainU plainV plainW plainY
-returns-21 c = letter-is _ _ (c .before .before .before .capital-of .ensures) 83 _ (c .before .before .match .keys20) (c .find-in20 .ensures)
+returns-21 c =
+    let same = letter-is _ _ (c .before .before .before .capital-of .ensures) 83 (c .before .before .match .keys20) in
+    (c .find-s .ensures .0 ∙ ap lengthOf same, c .find-s .ensures .1 ∙ ap (groupOf _) same)
 
 returns-22 : tie.Need-returns-22
-unfolding entries encoded entriesOf grouped topLevelPhrases creatable alterableOrDroppable each eachDropped newlineAfterPhrases newlinePhrases joinPhrases noIndentPhrases plainTwoPhrases plainOnePhrases plainA plainB plainC plainD plainE plainF plainG plainH plainI plainK plainL plainM plainN plainO plainP plainQ plainR plainS plainT plainU plainV plainW plainY
-returns-22 c = letter-is _ _ (c .before .before .before .capital-of .ensures) 84 _ (c .before .before .match .keys21) (c .find-in21 .ensures)
+returns-22 c =
+    let same = letter-is _ _ (c .before .before .before .capital-of .ensures) 84 (c .before .before .match .keys21) in
+    (c .find-t .ensures .0 ∙ ap lengthOf same, c .find-t .ensures .1 ∙ ap (groupOf _) same)
 
 returns-23 : tie.Need-returns-23
-unfolding entries encoded entriesOf grouped topLevelPhrases creatable alterableOrDroppable each eachDropped newlineAfterPhrases newlinePhrases joinPhrases noIndentPhrases plainTwoPhrases plainOnePhrases plainA plainB plainC plainD plainE plainF plainG plainH plainI plainK plainL plainM plainN plainO plainP plainQ plainR plainS plainT plainU plainV plainW plainY
-returns-23 c = letter-is _ _ (c .before .before .before .capital-of .ensures) 85 _ (c .before .before .match .keys22) (c .find-in22 .ensures)
+returns-23 c =
+    let same = letter-is _ _ (c .before .before .before .capital-of .ensures) 85 (c .before .before .match .keys22) in
+    (c .find-u .ensures .0 ∙ ap lengthOf same, c .find-u .ensures .1 ∙ ap (groupOf _) same)
 
 returns-24 : tie.Need-returns-24
-unfolding entries encoded entriesOf grouped topLevelPhrases creatable alterableOrDroppable each eachDropped newlineAfterPhrases newlinePhrases joinPhrases noIndentPhrases plainTwoPhrases plainOnePhrases plainA plainB plainC plainD plainE plainF plainG plainH plainI plainK plainL plainM plainN plainO plainP plainQ plainR plainS plainT plainU plainV plainW plainY
-returns-24 c = letter-is _ _ (c .before .before .before .capital-of .ensures) 86 _ (c .before .before .match .keys23) (c .find-in23 .ensures)
+returns-24 c =
+    let same = letter-is _ _ (c .before .before .before .capital-of .ensures) 86 (c .before .before .match .keys23) in
+    (c .find-v .ensures .0 ∙ ap lengthOf same, c .find-v .ensures .1 ∙ ap (groupOf _) same)
 
 returns-25 : tie.Need-returns-25
-unfolding entries encoded entriesOf grouped topLevelPhrases creatable alterableOrDroppable each eachDropped newlineAfterPhrases newlinePhrases joinPhrases noIndentPhrases plainTwoPhrases plainOnePhrases plainA plainB plainC plainD plainE plainF plainG plainH plainI plainK plainL plainM plainN plainO plainP plainQ plainR plainS plainT plainU plainV plainW plainY
-returns-25 c = letter-is _ _ (c .before .before .before .capital-of .ensures) 87 _ (c .before .before .match .keys24) (c .find-in24 .ensures)
+returns-25 c =
+    let same = letter-is _ _ (c .before .before .before .capital-of .ensures) 87 (c .before .before .match .keys24) in
+    (c .find-w .ensures .0 ∙ ap lengthOf same, c .find-w .ensures .1 ∙ ap (groupOf _) same)
 
 returns-26 : tie.Need-returns-26
-unfolding entries encoded entriesOf grouped topLevelPhrases creatable alterableOrDroppable each eachDropped newlineAfterPhrases newlinePhrases joinPhrases noIndentPhrases plainTwoPhrases plainOnePhrases plainA plainB plainC plainD plainE plainF plainG plainH plainI plainK plainL plainM plainN plainO plainP plainQ plainR plainS plainT plainU plainV plainW plainY
-returns-26 c = letter-is _ _ (c .before .before .before .capital-of .ensures) 88 _ (c .before .before .match .keys25) (c .find-in25 .ensures)
+returns-26 c =
+    let same = letter-is _ _ (c .before .before .before .capital-of .ensures) 88 (c .before .before .match .keys25) in
+    (c .find-x .ensures .0 ∙ ap lengthOf same, c .find-x .ensures .1 ∙ ap (groupOf _) same)
 
 returns-27 : tie.Need-returns-27
-unfolding entries encoded entriesOf grouped topLevelPhrases creatable alterableOrDroppable each eachDropped newlineAfterPhrases newlinePhrases joinPhrases noIndentPhrases plainTwoPhrases plainOnePhrases plainA plainB plainC plainD plainE plainF plainG plainH plainI plainK plainL plainM plainN plainO plainP plainQ plainR plainS plainT plainU plainV plainW plainY
-returns-27 c = letter-is _ _ (c .before .before .before .capital-of .ensures) 89 _ (c .before .before .match .keys26) (c .find-in26 .ensures)
+returns-27 c =
+    let same = letter-is _ _ (c .before .before .before .capital-of .ensures) 89 (c .before .before .match .keys26) in
+    (c .find-y .ensures .0 ∙ ap lengthOf same, c .find-y .ensures .1 ∙ ap (groupOf _) same)
 
 letters : List ℕ
 letters = 89 ∷ 88 ∷ 87 ∷ 86 ∷ 85 ∷ 84 ∷ 83 ∷ 82 ∷ 81 ∷ 80 ∷ 79 ∷ 78 ∷ 77 ∷ 76 ∷ 75 ∷ 74 ∷ 73 ∷ 72 ∷ 71 ∷ 70 ∷ 69 ∷ 68 ∷ 67 ∷ 66 ∷ 65 ∷ 36 ∷ []
 
 returns-28 : tie.Need-returns-28
-unfolding letters contains entries encoded entriesOf grouped topLevelPhrases creatable alterableOrDroppable each eachDropped newlineAfterPhrases newlinePhrases joinPhrases noIndentPhrases plainTwoPhrases plainOnePhrases plainA plainB plainC plainD plainE plainF plainG plainH plainI plainK plainL plainM plainN plainO plainP plainQ plainR plainS plainT plainU plainV plainW plainY
-returns-28 c = none-is _ _ (c .before .capital-of .ensures) letters refl (c .match .rest)
+unfolding letters contains entries grouped topLevelPhrases creatable alterableOrDroppable each eachDropped newlineAfterPhrases newlinePhrases joinPhrases noIndentPhrases plainTwoPhrases plainOnePhrases plainA plainB plainC plainD plainE plainF plainG plainH plainI plainK plainL plainM plainN plainO plainP plainQ plainR plainS plainT plainU plainV plainW plainY
+returns-28 c =
+    let none = none-is _ _ (c .before .capital-of .ensures) letters refl (c .match .rest) in
+    (ap lengthOf none, ap (groupOf _) none)
 
 pub find-phrase-spec : {M : Type 1} → statement M
 find-phrase-spec =
@@ -298,58 +248,32 @@ find-phrase-spec =
     returns
     shared-slice-read-capital-of
     capital-of-requires
-    slice-aggregate-find-in
-    find-in-requires
-    slice-aggregate-find-in-2
-    find-in-requires-2
-    slice-aggregate-find-in-3
-    find-in-requires-3
-    slice-aggregate-find-in-4
-    find-in-requires-4
-    slice-aggregate-find-in-5
-    find-in-requires-5
-    slice-aggregate-find-in-6
-    find-in-requires-6
-    slice-aggregate-find-in-7
-    find-in-requires-7
-    slice-aggregate-find-in-8
-    find-in-requires-8
-    slice-aggregate-find-in-9
-    find-in-requires-9
-    slice-aggregate-find-in-10
-    find-in-requires-10
-    slice-aggregate-find-in-11
-    find-in-requires-11
-    slice-aggregate-find-in-12
-    find-in-requires-12
-    slice-aggregate-find-in-13
-    find-in-requires-13
-    slice-aggregate-find-in-14
-    find-in-requires-14
-    slice-aggregate-find-in-15
-    find-in-requires-15
-    slice-aggregate-find-in-16
-    find-in-requires-16
-    slice-aggregate-find-in-17
-    find-in-requires-17
-    slice-aggregate-find-in-18
-    find-in-requires-18
-    slice-aggregate-find-in-19
-    find-in-requires-19
-    slice-aggregate-find-in-20
-    find-in-requires-20
-    slice-aggregate-find-in-21
-    find-in-requires-21
-    slice-aggregate-find-in-22
-    find-in-requires-22
-    slice-aggregate-find-in-23
-    find-in-requires-23
-    slice-aggregate-find-in-24
-    find-in-requires-24
-    slice-aggregate-find-in-25
-    find-in-requires-25
-    slice-aggregate-find-in-26
-    find-in-requires-26
+    find-dollar-requires
+    find-a-requires
+    find-b-requires
+    find-c-requires
+    find-d-requires
+    find-e-requires
+    find-f-requires
+    find-g-requires
+    find-h-requires
+    find-i-requires
+    find-j-requires
+    find-k-requires
+    find-l-requires
+    find-m-requires
+    find-n-requires
+    find-o-requires
+    find-p-requires
+    find-q-requires
+    find-r-requires
+    find-s-requires
+    find-t-requires
+    find-u-requires
+    find-v-requires
+    find-w-requires
+    find-x-requires
+    find-y-requires
     returns-2
     returns-3
     returns-4

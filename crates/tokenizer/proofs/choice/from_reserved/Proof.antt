@@ -4,6 +4,9 @@ use Rattle.recognisers.proofs.OrderedChoice.{first-recognises, rest-recognises}
 use Rattle.tokenizer.proofs.choice.from_reserved.Statement.{statement}
 use Rattle.tokenizer.proofs.choice.from_reserved.Tie as tie
 
+word-length-requires : tie.Need-word-length-requires
+word-length-requires c κs = search needs
+
 get-reserved-word-token-requires : tie.Need-get-reserved-word-token-requires
 get-reserved-word-token-requires c κs = search needs
 
@@ -28,6 +31,7 @@ pub from-reserved-spec : {M : Type 1} → statement M
 from-reserved-spec =
     tie.close
     (tie.spec
+    word-length-requires
     get-reserved-word-token-requires
     enum-known-piece
     enum-told

@@ -33,8 +33,8 @@ loop-again c = search byte-more
 returns : tie.Need-returns Inv-loop μ-loop
 returns c = search byte-stop
 
-rest-of-run-requires : tie.Need-rest-of-run-requires Inv-loop μ-loop
-rest-of-run-requires c κs = search needs
+run-from-requires : tie.Need-run-from-requires Inv-loop μ-loop
+run-from-requires c κs = search needs
 
 returns-2 : tie.Need-returns-2 Inv-loop μ-loop
 returns-2 c = search needs
@@ -55,6 +55,6 @@ run-of-spec =
     loop-less
     loop-again
     returns
-    rest-of-run-requires
+    run-from-requires
     returns-2
     returns-3)
