@@ -11,6 +11,7 @@ pub struct Inputs {
 
 // A call on the inputs that stand, with the numbers of its line, the escaped quotes that it must tell, and what it must have
 // written.
+#[derive(Clone)]
 pub struct Check {
     pub line: usize,
     pub mark: char,

@@ -339,9 +339,43 @@ def refusals(lines):
     lines.fill(EXAMPLE, b"a" * 65536, lent=65535)
 
 
+# --------------------------------------------------------------------------
+# As much room as a filled text can take: sheets, and searches that take the longest value, another one, or none
+
+LONGEST = (
+    (NONE, ("", "a", "? :a")),
+    (indexed(), ("?", "$1 ?")),
+    (indexed(""), ("?", "a ? b", "?0?0")),
+    (indexed("7"), ("?", "? ?", "$1$1")),
+    (indexed("", "x", "yz"), ("$3", "$3$3$3", "? ? ?", "$1$1$1")),
+    (indexed("a value of some length", "7"), ("?", "$1 $1", "$2 $2", "no value")),
+    (indexed("é€😀"), ("?", "? $1 ?0", "é")),
+    (named(("a", "1"), ("a long name", "22")), (":a", "{a long name}", "{a}{a}", ":b ?")),
+    (named(("", "empty"), ("a", "")), ("?1?1?1", ":a :a", "$0")),
+    (indexed("x" * 1000), ("?", "?0?0", "?" * 5)),
+)
+
+
+def most(text, sheet):
+    """The statement's length times that of the longest value, which is 1 where none is longer"""
+    _, entries = read_sheet(sheet)
+    return len(as_bytes(text)) * max([1, *(len(value) for _, (*_, value) in entries)])
+
+
+def longest(lines):
+    lines.group("as much room as a filled text can take, and somewhat less and more")
+    for sheet, texts in LONGEST:
+        for text in texts:
+            room = most(text, sheet)
+            if fill(as_bytes(text), 0, 0, 0, sheet, room)[0] != 0:
+                sys.exit(f"{text!r}: longer than {room} bytes")
+            for lent in (room - 2, room - 1, room, room + 1):
+                lines.fill(sheet, text, lent=max(lent, 0))
+
+
 def main():
     lines = Filled(ABOUT, "vwsfo=ltg")
-    for group in (worked, faults, keys, places, refusals):
+    for group in (worked, faults, keys, places, refusals, longest):
         group(lines)
     lines.print()
 

@@ -95,13 +95,18 @@ fn nothing_gives_the_statement(case: &Case) -> Verdict {
     holds(answer == (DONE, case.text.len() as u64) && output == case.text, || format!("{:?}", answer))
 }
 
+// The most that a filled text can have, by the header's rule.
+fn most(text: &[u8], sheet: &Sheet) -> usize {
+    text.len() * sheet.entries.iter().map(|entry| entry.1.len()).fold(1, usize::max)
+}
+
+// With the most that a filled text can have, fill takes one pass, and two below it.
 fn output_is_told(case: &Case) -> Verdict {
     let (number, needed) = fill(&case.text, case.settings, &case.sheet, &mut []);
-    if number != DONE && number != OUTPUT_FULL {
-        return Aside;
-    }
+    let (true, Some(sheet)) = ([DONE, OUTPUT_FULL].contains(&number), Sheet::read(&case.sheet)) else { return Aside };
     let exact = needed as usize;
-    for lent in [exact, exact + 1, exact + 50, exact.saturating_sub(1), exact / 2] {
+    let most = most(&case.text, &sheet).min(1 << 20);
+    for lent in [exact, exact + 1, exact + 50, exact.saturating_sub(1), exact / 2, most, most.saturating_sub(1)] {
         let mut output = vec![GUARD; lent];
         let answer = fill(&case.text, case.settings, &case.sheet, &mut output);
         let (number, written) = if lent < exact { (OUTPUT_FULL, 0) } else { (DONE, exact) };
@@ -139,6 +144,19 @@ fn values_beside_are_no_matter(case: &Case) -> Verdict {
     holds(filled(case, &case.sheet) == filled(case, &bytes), || format!("{:02x?}", bytes))
 }
 
+fn no_longer_than_the_most(case: &Case) -> Verdict {
+    let (answer, _) = filled(case, &case.sheet);
+    let (DONE, Some(sheet)) = (answer.0, Sheet::read(&case.sheet)) else { return Aside };
+    holds(answer.1 as usize <= most(&case.text, &sheet), || format!("{:?}", answer))
+}
+
+fn wrong_no_longer_than_text_and_values(case: &Case) -> Verdict {
+    let (answer, _) = filled(case, &case.sheet);
+    let (DONE, Some(sheet)) = (answer.0, Sheet::read(&case.sheet)) else { return Aside };
+    let values: usize = sheet.entries.iter().map(|entry| entry.1.len()).sum();
+    holds(answer.1 as usize <= case.text.len() + values, || format!("{:?}", answer))
+}
+
 fn wrong_nothing_is_filled(case: &Case) -> Verdict {
     let (answer, output) = filled(case, &case.sheet);
     holds(answer.0 != DONE || output == case.text, || output.escape_ascii().to_string())
@@ -169,8 +187,10 @@ fn main() {
         right("the filled text is the values with what each placeholder takes", is_by_rule),
         right("a sheet without values gives the statement back", nothing_gives_the_statement),
         right("an output: exactly full, one byte short, the rest kept", output_is_told),
+        right("no longer than the statement's length times that of the longest value", no_longer_than_the_most),
         right("what the output held makes no difference", content_is_no_matter),
         right("values that no placeholder takes make no difference", values_beside_are_no_matter),
+        wrong("WRONG: no longer than the statement and all values together", wrong_no_longer_than_text_and_values),
         wrong("WRONG: the filled text is the search", wrong_nothing_is_filled),
         wrong("WRONG: `?1` moves the turn on", wrong_all_are_counted),
         wrong("WRONG: no sheet is malformed", wrong_sheets_are_accepted),

@@ -6,7 +6,7 @@ use native.Mathlib.Omega.{arith}
 use mathlib.Core.Path.{_≡_, refl, sym, ap, _∙_}
 use mathlib.Core.List.{List, [], _∷_, _++_, append-nil, append-assoc}
 use lib.ListN.{length, take, drop, set, length-append, length-drop, drop-of-length-le}
-use lib.Seq.{sets, sets-eq, take-all, take-at, drop-append-add, drop-drop}
+use lib.Seq.{sets, sets-eq, length-take-le, take-all, take-at, drop-append-add, drop-drop}
 use borrow.Rule.Slice.PartMut.{putMid}
 
 pub both-put : (vs ws table : List ℕ) (i : ℕ) → sets (sets table i vs) (i + length vs) ws ≡ sets table i (vs ++ ws)
@@ -31,3 +31,18 @@ copy-put bytes output part at h e =
     let none : drop (length output - at) (drop at output) ≡ [] = drop-of-length-le (drop at output) {i = length output - at} (rw length-drop (le-refl _)) in
     let all : take (length bytes) bytes ≡ bytes = take-all (length bytes) bytes (le-refl _) in
     rw (e, whole, none, append-nil, all, drop-drop, ← append-assoc) (sym (sets-eq bytes output at h))
+
+-- the part of a source that is copied
+module _ (start len : ℕ) where
+  pub back : start + len - start ≡ len
+  back = omega arith
+
+  pub part-length : (source : List ℕ) → start + len ≤ length source → length (take len (drop start source)) ≡ len
+  part-length source h = length-take-le len (drop start source) (rw length-drop (omega arith))
+
+  module _ (source output : List ℕ) (at : ℕ) where
+    pub part-room : start + len ≤ length source → at + len ≤ length output → at + length (take (start + len - start) (drop start source)) ≤ length output
+    part-room h k = rw (back, part-length source h) k
+
+    pub part-put : (after : List ℕ) → after ≡ sets output at (take (start + len - start) (drop start source)) → after ≡ sets output at (take len (drop start source))
+    part-put after e = e ∙ rw back

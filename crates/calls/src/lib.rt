@@ -9,6 +9,7 @@ mod texts;
 
 pub use checking::check;
 pub use copying::put_bytes;
+pub use copying::put_from;
 pub use little_endian::le16_at;
 pub use little_endian::le24_at;
 pub use little_endian::le32_at;

@@ -6,6 +6,8 @@ pub mod EntriesInside
 pub mod GetByCases
 pub mod TokensInside
 pub mod FillWalk
+pub mod LongestValues
+pub mod FilledShort
 pub mod PartBytes
 pub mod FillAnswers
 pub mod Lookups

@@ -3,3 +3,4 @@
 pub mod Carried
 pub mod Cases
 pub mod Inside
+pub mod Longest

@@ -1,4 +1,5 @@
 // `fill`: the filled text of a statement, into an output that the caller lends.
+use crate::longest::most_filled;
 use crate::sheet::is_sheet;
 use crate::text::filled_length;
 use crate::text::write_filled;
@@ -31,7 +32,7 @@ pub fn check_with(statement: &[u8], dialect: u64, joins: u64, named: u64, sheet:
     }
 }
 
-// Where the output is full, nothing may be written.
+// Measures first: where the output is full, nothing may be written.
 fn measure_then_write(
     statement: &[u8],
     settings: Settings,
@@ -47,8 +48,20 @@ fn measure_then_write(
     if output.len() < needed {
         return TextAnswer::Refused(Refusal::OutputFull(needed as u64));
     }
-    write_filled(statement, settings, sheet, output);
-    TextAnswer::Written(needed as u64)
+    TextAnswer::Written(write_filled(statement, settings, sheet, output) as u64)
+}
+
+// With as much room as a filled text can take, one pass is enough.
+fn write_output(statement: &[u8], settings: Settings, sheet: &[u8], output: &mut [u8]) -> TextAnswer
+    requires { ⌜ length (now statement) ≤ 65536 ⌝ }
+    requires { ⌜ isSheet (now sheet) ≡ true ⌝ }
+    ensures { λ r. ⌜ r ≡ textAnswer (filled settings (now (statement .entry)) (now (sheet .entry))) (length (now (output .entry))) ⌝ }
+    ensures { λ _. ⌜ now (output .exit) ≡ textAfter (filled settings (now (statement .entry)) (now (sheet .entry))) (now (output .entry)) ⌝ }
+{
+    if output.len() < most_filled(statement, sheet) {
+        return measure_then_write(statement, settings, sheet, output);
+    }
+    TextAnswer::Written(write_filled(statement, settings, sheet, output) as u64)
 }
 
 pub fn fill(
@@ -63,7 +76,7 @@ pub fn fill(
     ensures { λ _. ⌜ now (output .exit) ≡ fillOutput (now (statement .entry)) dialect joins named (now (sheet .entry)) (now (output .entry)) ⌝ }
 {
     match check_with(statement, dialect, joins, named, sheet) {
-        Checked::Accepted(settings) => measure_then_write(statement, settings, sheet, output),
+        Checked::Accepted(settings) => write_output(statement, settings, sheet, output),
         Checked::Refused(refusal) => TextAnswer::Refused(refusal),
     }
 }

@@ -2,6 +2,7 @@
 mod filling;
 mod getting;
 mod keys;
+mod longest;
 mod looking;
 mod parts;
 mod places;

@@ -1,6 +1,6 @@
 // A part of the statement or of the sheet: its length, its bytes, and the bytes put into an output.
 use crate::Part;
-use calls::put_bytes;
+use calls::put_from;
 ghost use mathlib.Core.Path.{_≡_};
 ghost use Prim.Native.Nat.{_+_, _≤_};
 ghost use lib.ListN.{length};
@@ -24,12 +24,10 @@ pub fn put_part(statement: &[u8], sheet: &[u8], part: Part, output: &mut [u8], a
 {
     match part {
         Part::Statement { start, len } => {
-            let end = start + len;
-            put_bytes(&statement[start..end], output, at);
+            put_from(statement, start, len, output, at);
         }
         Part::Sheet { start, len } => {
-            let end = start + len;
-            put_bytes(&sheet[start..end], output, at);
+            put_from(sheet, start, len, output, at);
         }
     }
 }

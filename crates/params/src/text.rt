@@ -7,6 +7,9 @@ use crate::parts::part_length;
 use crate::parts::put_part;
 use crate::places::params_at;
 use calls::Settings;
+use calls::put_from;
+use recognisers::TokenKind;
+use recognisers::is_kind;
 use recognisers::no_hints;
 use tokenizer::Step;
 use tokenizer::Token;
@@ -34,7 +37,7 @@ fn length_for(statement: &[u8], sheet: &[u8], params: Params, token: Token) -> u
 }
 
 // What stands for a token, put into the output; the place behind it.
-fn put_for(
+fn put_part_for(
     statement: &[u8],
     sheet: &[u8],
     params: Params,
@@ -53,6 +56,31 @@ fn put_for(
     let part = stands_for(statement, sheet, params, token);
     put_part(statement, sheet, part, output, at);
     at + part_length(part)
+}
+
+// The same, where most tokens are no placeholders and need no look at the sheet.
+fn put_for(
+    statement: &[u8],
+    sheet: &[u8],
+    params: Params,
+    token: Token,
+    output: &mut [u8],
+    at: usize,
+) -> usize
+    requires { ⌜ isSheet (now sheet) ≡ true ⌝ }
+    requires { ⌜ keyEnd (token .key) ≤ length (now statement) ⌝ }
+    requires { ⌜ params ≡ paramsAt (now sheet) (params .index) ⌝ }
+    requires { ⌜ token .start + token .len ≤ length (now statement) ⌝ }
+    requires { ⌜ at + partLength (standsFor (now statement) (now sheet) (params .index) token) ≤ length (now output) ⌝ }
+    ensures { λ r. ⌜ r ≡ at + partLength (standsFor (now (statement .entry)) (now (sheet .entry)) (params .index) token) ⌝ }
+    ensures { λ _. ⌜ now (output .exit) ≡ sets (now (output .entry)) at (bytesFor (now (statement .entry)) (now (sheet .entry)) (params .index) token) ⌝ }
+{
+    let kind = token.kind;
+    if is_kind(kind, TokenKind::Placeholder) {
+        return put_part_for(statement, sheet, params, token, output, at);
+    }
+    put_from(statement, token.start, token.len, output, at);
+    at + token.len
 }
 
 pub fn filled_length(statement: &[u8], settings: Settings, sheet: &[u8]) -> usize
@@ -78,10 +106,12 @@ pub fn filled_length(statement: &[u8], settings: Settings, sheet: &[u8]) -> usiz
     }
 }
 
-pub fn write_filled(statement: &[u8], settings: Settings, sheet: &[u8], output: &mut [u8])
+// How many bytes were written.
+pub fn write_filled(statement: &[u8], settings: Settings, sheet: &[u8], output: &mut [u8]) -> usize
     requires { ⌜ length (now statement) ≤ 65536 ⌝ }
     requires { ⌜ isSheet (now sheet) ≡ true ⌝ }
     requires { ⌜ length (filled settings (now statement) (now sheet)) ≤ length (now output) ⌝ }
+    ensures { λ r. ⌜ r ≡ length (filled settings (now (statement .entry)) (now (sheet .entry))) ⌝ }
     ensures { λ _. ⌜ now (output .exit) ≡ writtenOver (filled settings (now (statement .entry)) (now (sheet .entry))) (now (output .entry)) ⌝ }
 {
     let mut at = 0;
@@ -96,7 +126,7 @@ pub fn write_filled(statement: &[u8], settings: Settings, sheet: &[u8], output: 
                 cursor = next;
             }
             Step::Done => {
-                return;
+                return at;
             }
         }
     }

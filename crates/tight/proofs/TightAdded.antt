@@ -5,13 +5,13 @@ use native.Mathlib.Omega.{arith}
 use mathlib.Core.Path.{_≡_, refl, sym, _∙_}
 use mathlib.Core.Bool.{Bool, true, false}
 use mathlib.Core.List.{List, _∷_, _++_, append-assoc}
-use lib.ListN.{length, take, drop, set, length-append, length-drop}
-use lib.Seq.{sets, length-sets, length-take-le}
+use lib.ListN.{length, take, drop, set, length-append}
+use lib.Seq.{sets, length-sets}
 use mir.Syntax.{w64}
 use mir.Val.{Fits}
 use Rattle.tokenizer.specs.declared.Token.{Token}
 use Rattle.tokenizer.specs.Values.{value}
-use Rattle.calls.proofs.Storing.{both-put}
+use Rattle.calls.proofs.Storing.{both-put, back, part-length}
 use Rattle.tight.specs.declared.Gap.{Gap}
 use Rattle.tight.specs.declared.Gap.the-variants.{Nothing, LineFeed, Space, Return}
 use Rattle.tight.specs.declared.Place.the-variants.{Behind}
@@ -47,16 +47,13 @@ module _ (s : List ℕ) (spacing : Spacing) (t : Token) where
       go false e = rw (tightFrom, e) (sym (append-assoc (gapBytes (spacing .lead)) (value s t) (tightFrom s (Behind (t .kind)) Nothing ts)))
 
 module _ (s : List ℕ) (lead : Gap) (t : Token) where
-  value-length : t .start + t .len ≤ length s → length (value s t) ≡ t .len
-  value-length h = length-take-le (t .len) (drop (t .start) s) (rw length-drop (omega arith))
-
   pub added-is-long : t .start + t .len ≤ length s → length (added s lead t) ≡ addedLength lead t
   unfolding added addedLength
   added-is-long h = go (isGap t) refl
     where
       go : (b : Bool) → isGap t ≡ b → length (added s lead t) ≡ addedLength lead t
       go true e = rw e
-      go false e = rw (e, length-append, value-length h)
+      go false e = rw (e, length-append, part-length (t .start) (t .len) s h)
 
 -- the lead past a token is no longer than what is read of it
 pub past-reach : (s : List ℕ) (spacing : Spacing) (t : Token) (n i j : ℕ) → n + length (gapBytes (spacing .lead)) ≤ i → i + t .len ≡ j → i < j
@@ -68,7 +65,7 @@ past-reach s spacing t n i j h e k = go (isGap t) refl
     go true f = rw f (omega (arith, gap-short (becomes (spacing .here) (value s t))))
     go false f = rw f (omega arith)
 
--- ---- a gap and a value, put
+-- ---- a gap, put
 
 module _ (gap : Gap) (output : List ℕ) (at : ℕ) (h : at + length (gapBytes gap) ≤ length output) where
   pub line-room : gap ≡ LineFeed → at < length output
@@ -92,17 +89,6 @@ module _ (gap : Gap) (output : List ℕ) (at : ℕ) where
 
   pub return-put : gap ≡ Return → set output at 13 ≡ sets output at (gapBytes gap)
   return-put e = rw e
-
-module _ (start len : ℕ) where
-  back : start + len - start ≡ len
-  back = omega arith
-
-  module _ (s output : List ℕ) (at : ℕ) where
-    pub value-room : start + len ≤ length s → at + len ≤ length output → at + length (take (start + len - start) (drop start s)) ≤ length output
-    value-room h k = rw (back, length-take-le len (drop start s) (rw length-drop (omega arith))) k
-
-    pub value-put : (after : List ℕ) → after ≡ sets output at (take (start + len - start) (drop start s)) → after ≡ sets output at (take len (drop start s))
-    value-put after e = e ∙ rw back
 
 -- ---- the spacing past a token
 

@@ -10,8 +10,8 @@ check-with-requires c κs = search needs
 enum-known-settings : tie.Need-enum-known-settings
 enum-known-settings c = search needs
 
-measure-then-write-requires : tie.Need-measure-then-write-requires
-measure-then-write-requires c κs = search (statement-short, accepted-sheet)
+write-output-requires : tie.Need-write-output-requires
+write-output-requires c κs = search (statement-short, accepted-sheet)
 
 enum-known-refusal : tie.Need-enum-known-refusal
 enum-known-refusal c = search needs
@@ -31,7 +31,7 @@ fill-spec =
     (tie.spec
     check-with-requires
     enum-known-settings
-    measure-then-write-requires
+    write-output-requires
     enum-known-refusal
     same-length
     returns

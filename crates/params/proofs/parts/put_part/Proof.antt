@@ -1,43 +1,19 @@
 use borrow.Author.Needs.{needs}
-use Rattle.params.proofs.PartBytes.{statement-fits, statement-end, statement-room, statement-put, sheet-fits, sheet-end, sheet-room, sheet-put}
+use Rattle.params.proofs.PartBytes.{statement-end, statement-room, statement-put, sheet-end, sheet-room, sheet-put}
 use Rattle.params.proofs.parts.put_part.Statement.{statement}
 use Rattle.params.proofs.parts.put_part.Tie as tie
 
 enum-known-part : tie.Need-enum-known-part
 enum-known-part c = search needs
 
-add-end : tie.Need-add-end
-add-end c = search statement-fits
-
-sub-put-bytes : tie.Need-sub-put-bytes
-sub-put-bytes c = search needs
-
-part-put-bytes-start : tie.Need-part-put-bytes-start
-part-put-bytes-start c = search needs
-
-part-put-bytes-end : tie.Need-part-put-bytes-end
-part-put-bytes-end c = search statement-end
-
-put-bytes-requires : tie.Need-put-bytes-requires
-put-bytes-requires c κs = search statement-room
+put-from-requires : tie.Need-put-from-requires
+put-from-requires c κs = (search statement-end, search statement-room)
 
 enum-known-part-2 : tie.Need-enum-known-part-2
 enum-known-part-2 c = search needs
 
-add-end-2 : tie.Need-add-end-2
-add-end-2 c = search sheet-fits
-
-sub-put-bytes-2 : tie.Need-sub-put-bytes-2
-sub-put-bytes-2 c = search needs
-
-part-put-bytes-start-2 : tie.Need-part-put-bytes-start-2
-part-put-bytes-start-2 c = search needs
-
-part-put-bytes-end-2 : tie.Need-part-put-bytes-end-2
-part-put-bytes-end-2 c = search sheet-end
-
-put-bytes-requires-2 : tie.Need-put-bytes-requires-2
-put-bytes-requires-2 c κs = search sheet-room
+put-from-requires-2 : tie.Need-put-from-requires-2
+put-from-requires-2 c κs = (search sheet-end, search sheet-room)
 
 same-length : tie.Need-same-length
 same-length c = search needs
@@ -56,17 +32,9 @@ put-part-spec =
     tie.close
     (tie.spec
     enum-known-part
-    add-end
-    sub-put-bytes
-    part-put-bytes-start
-    part-put-bytes-end
-    put-bytes-requires
+    put-from-requires
     enum-known-part-2
-    add-end-2
-    sub-put-bytes-2
-    part-put-bytes-start-2
-    part-put-bytes-end-2
-    put-bytes-requires-2
+    put-from-requires-2
     same-length
     returns
     same-length-2

@@ -15,11 +15,11 @@ put-gap-requires c κs = search gap-room
 gap-length-requires : tie.Need-gap-length-requires
 gap-length-requires c κs = search needs
 
-add-put-value : tie.Need-add-put-value
-add-put-value c = search behind-fits
+add-put-from : tie.Need-add-put-from
+add-put-from c = search behind-fits
 
-put-value-requires : tie.Need-put-value-requires
-put-value-requires c κs = search behind-room
+put-from-requires : tie.Need-put-from-requires
+put-from-requires c κs = search behind-room
 
 same-length : tie.Need-same-length
 same-length c = search needs
@@ -35,7 +35,7 @@ put-added-spec =
     returns
     put-gap-requires
     gap-length-requires
-    add-put-value
-    put-value-requires
+    add-put-from
+    put-from-requires
     same-length
     returns-2)

@@ -1,7 +1,7 @@
 use borrow.Author.Needs.{needs}
-use Rattle.tight.proofs.TightAdded.{value-room, value-put}
-use Rattle.tight.proofs.adding.put_value.Statement.{statement}
-use Rattle.tight.proofs.adding.put_value.Tie as tie
+use Rattle.calls.proofs.Storing.{part-room, part-put}
+use Rattle.calls.proofs.copying.put_from.Statement.{statement}
+use Rattle.calls.proofs.copying.put_from.Tie as tie
 
 add-end : tie.Need-add-end
 add-end c = search needs
@@ -16,16 +16,16 @@ part-put-bytes-end : tie.Need-part-put-bytes-end
 part-put-bytes-end c = search needs
 
 put-bytes-requires : tie.Need-put-bytes-requires
-put-bytes-requires c κs = search value-room
+put-bytes-requires c κs = search part-room
 
 same-length : tie.Need-same-length
 same-length c = search needs
 
 returns : tie.Need-returns
-returns c = search value-put
+returns c = search part-put
 
-pub put-value-spec : {M : Type 1} → statement M
-put-value-spec =
+pub put-from-spec : {M : Type 1} → statement M
+put-from-spec =
     tie.close
     (tie.spec
     add-end
