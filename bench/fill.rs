@@ -58,12 +58,13 @@ fn speeds(name: &str, text: &[u8], table: &mut [u8]) {
     println!(" {:10.1} {:10.1}", times.ratio(1, 3), times.ratio(2, 3));
 }
 
-// Statement and sheet both of so many bytes.
+// Statement and sheet both of so many bytes. `LAST` in the part stands for the place of the sheet's last entry.
 fn growth_with(name: &str, part: &str, kind: u8) {
     let mut output = vec![0; 1 << 20];
     growth(name, |most| {
         let sheet = wide_sheet(kind, most);
-        a_byte(&text(part, most), |text| fill(text, [0, 0, 0], &sheet, &mut output))
+        let last = u16::from_le_bytes([sheet[1], sheet[2]]).to_string();
+        a_byte(&text(&part.replace("LAST", &last), most), |text| fill(text, [0, 0, 0], &sheet, &mut output))
     });
 }
 
@@ -78,8 +79,9 @@ fn main() {
     }
     head("fill with a sheet, ns a byte");
     growth_with("?, indexed sheet as long", "? ", INDEXED);
-    growth_with("$30000, indexed sheet as long", "$30000 ", INDEXED);
+    growth_with("$30000, past the end of it", "$30000 ", INDEXED);
     growth_with("$1, indexed sheet as long", "$1 ", INDEXED);
+    growth_with("$ and the last place of it", "$LAST ", INDEXED);
     growth_with("?, named sheet as long", "? ", NAMED);
     growth_with(":a, the last of a named sheet", ":a ", NAMED);
     growth_with(":b, the first of it", ":b ", NAMED);

@@ -48,9 +48,10 @@
  *
  * A call's time grows with the length of the statement, whatever the text says: the worst text that was found takes three times
  * as long as an ordinary search of its length. Where the room lent always suffices, by the sizes above, the statement is read
- * once; with less room it is read once before, to learn the size, and the call takes twice as long. fill looks for a value by
- * name from the sheet's first entry on: many placeholders whose names stand far down a long sheet, or in none of its entries,
- * take time that grows with the product of both lengths.
+ * once; with less room it is read once before, to learn the size, and the call takes twice as long. fill takes one step in the
+ * sheet for each value that is next in turn (`?`). A value by its name or by its place (`$9000`) is looked for from the sheet's
+ * first entry on: many placeholders whose names or places stand far down a long sheet, or whose names stand nowhere in it, take
+ * time that grows with the product of both lengths.
  *
  * SETTINGS
  *
