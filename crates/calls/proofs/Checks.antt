@@ -8,9 +8,9 @@ use mathlib.Core.List.{List}
 use borrow.Author.Tests.{lt-ltb, le-ltb, ltb-false}
 use lib.Dec.{ltb}
 use lib.ListN.{length}
-use Rattle.unicode.specs.declared.IllFormed.{IllFormed}
-use Rattle.unicode.specs.declared.IllFormed.TheVariants.{At, Nowhere}
-use Rattle.unicode.specs.Utf8.{firstIllFormed}
+use Rattle.characters.specs.declared.IllFormed.{IllFormed}
+use Rattle.characters.specs.declared.IllFormed.TheVariants.{At, Nowhere}
+use Rattle.characters.specs.Utf8.{firstIllFormed}
 use Rattle.calls.specs.declared.Checked.{Checked}
 use Rattle.calls.specs.declared.Checked.TheVariants.{Accepted, Refused}
 use Rattle.calls.specs.declared.Refusal.{Refusal}

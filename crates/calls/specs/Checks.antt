@@ -1,8 +1,8 @@
 -- The refusals that all calls share, the first that applies: 3, then 1, then 2.
 use Rattle.std.specs.Prelude.{ℕ, cond, List, ltb, length}
-use Rattle.unicode.specs.declared.IllFormed.{IllFormed}
-use Rattle.unicode.specs.declared.IllFormed.TheVariants.{At, Nowhere}
-use Rattle.unicode.specs.Utf8.{firstIllFormed}
+use Rattle.characters.specs.declared.IllFormed.{IllFormed}
+use Rattle.characters.specs.declared.IllFormed.TheVariants.{At, Nowhere}
+use Rattle.characters.specs.Utf8.{firstIllFormed}
 use Rattle.calls.specs.declared.Checked.{Checked}
 use Rattle.calls.specs.declared.Checked.TheVariants.{Accepted, Refused}
 use Rattle.calls.specs.declared.Refusal.{Refusal}

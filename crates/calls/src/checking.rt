@@ -5,7 +5,7 @@ ghost use Rattle.calls.specs.Checks.{checkedText, checked};
 
 use crate::{Checked, Refusal, Settings};
 use recognisers::Dialect;
-use unicode::{IllFormed, first_ill_formed};
+use characters::{IllFormed, first_ill_formed};
 
 fn is_setting(dialect: u64, joins: u64, named: u64) -> bool
     ensures { result ≡ isSetting dialect joins named }

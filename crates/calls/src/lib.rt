@@ -1,4 +1,6 @@
 // What every call shares: settings, refusals, the checks that come first, a text put into an output, numbers as bytes, copying.
+#![tactic(auto)]
+
 use recognisers::Dialect;
 
 mod checking;
@@ -13,7 +15,7 @@ pub use little_endian::{le16_at, le24_at, le32_at, put_le16, put_le24, put_le32}
 pub use refusals::{refusal_detail, refusal_number};
 pub use texts::{text_detail, text_number};
 
-#[derive(Drop)]
+#[derive(Clone, Copy)]
 pub struct Settings {
     pub dialect: Dialect,
     pub joins: bool,
@@ -21,7 +23,7 @@ pub struct Settings {
 }
 
 // Why a call is turned away. What it answers on success is its own.
-#[derive(Drop)]
+#[derive(Clone, Copy)]
 pub enum Refusal {
     Overlong(u64),
     NotUtf8(u64),
@@ -32,14 +34,14 @@ pub enum Refusal {
 }
 
 // A statement under settings, accepted or refused.
-#[derive(Drop)]
+#[derive(Clone, Copy)]
 pub enum Checked {
     Accepted(Settings),
     Refused(Refusal),
 }
 
 // What a call answers that writes a text: how many bytes it wrote.
-#[derive(Drop)]
+#[derive(Clone, Copy)]
 pub enum TextAnswer {
     Written(u64),
     Refused(Refusal),

@@ -1,5 +1,7 @@
 // Twins of the calls that serve Rattle callers alone, for tests that are written in Rust: they link libcalls_exports.a. It is
 // no part of the product's boundary, which has none of these calls.
+#![tactic(auto)]
+
 ghost use Rattle.std.specs.Prelude.{◌≡◌};
 ghost use Rattle.calls.specs.Texts.{textAfter};
 ghost use Rattle.params.specs.Answers.{lookupPart, lookupBytes, lookupCounter, lookupNumber, lookupDetail};

@@ -1,4 +1,6 @@
 // What the programs share: a statement from standard input; numbers, answers and refusals on standard output.
+#![tactic(auto)]
+
 ghost use Rattle.std.specs.Prelude.{◌≡◌, length};
 ghost use Rattle.io.specs.Counts.{IsPrefixLen};
 ghost use Rattle.console.specs.Printed.{WrittenInside};

@@ -6,6 +6,8 @@
 //
 // Of sheet and statement one byte more than each may have is kept, by which fill refuses as for the whole. What a sheet has
 // beyond that is read past, since the statement behind it decides whether 1 or 2 comes before the sheet's 5.
+#![tactic(auto)]
+
 ghost use Rattle.std.specs.Prelude.{◌≡◌, ◌≤◌, length};
 ghost use Rattle.io.specs.Counts.{IsPrefixLen};
 

@@ -1,5 +1,7 @@
 // Reads a statement from standard input, reads it with the default settings (Generic, joins 0, named placeholders 0), and
 // prints a line with the count of tokens and the eight fields of each record; or `refused` and the number.
+#![tactic(auto)]
+
 use calls::{Checked, Settings, check};
 use console::{print, print_next, print_number, print_refusal, read_text, text_space};
 use tokenizer::{KeyWords, Step, Token};

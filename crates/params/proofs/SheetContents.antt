@@ -10,9 +10,9 @@ use lib.Dec.{leb, ltb, eqb}
 use lib.ListN.{length, get_or}
 use mir.Syntax.{w64}
 use mir.Val.{Fits}
-use Rattle.unicode.specs.declared.IllFormed.{IllFormed}
-use Rattle.unicode.specs.declared.IllFormed.TheVariants.{At, Nowhere}
-use Rattle.unicode.specs.Utf8.{wellFormedFrom, firstIllFormed, wellFormed}
+use Rattle.characters.specs.declared.IllFormed.{IllFormed}
+use Rattle.characters.specs.declared.IllFormed.TheVariants.{At, Nowhere}
+use Rattle.characters.specs.Utf8.{wellFormedFrom, firstIllFormed, wellFormed}
 use Rattle.calls.specs.LittleEndian.{number_at}
 use Rattle.params.specs.declared.Lengths.{Lengths}
 use Rattle.params.specs.declared.Place.{Place}

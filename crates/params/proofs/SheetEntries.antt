@@ -10,7 +10,7 @@ use mathlib.Core.List.{List}
 use borrow.Author.Tests.{le-leb, lt-leb, ne_eqb, leb-true, leb-false}
 use lib.Dec.{leb, eqb}
 use lib.ListN.{length, take, drop}
-use Rattle.unicode.specs.Utf8.{wellFormed}
+use Rattle.characters.specs.Utf8.{wellFormed}
 use Rattle.params.specs.declared.Lengths.{Lengths}
 use Rattle.params.specs.declared.Place.{Place}
 use Rattle.params.specs.Sheet.{count_of, width, lengthsAt, past, place_of, name_at, value_at, name_of, value_of, bodiesAreUtf8, fillsExactly, isSheetLength, isKindAndCount, isSheet}

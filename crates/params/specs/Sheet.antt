@@ -1,6 +1,6 @@
 -- The value sheet: kind, count and lengths first, then the bodies, each entry's name before its value.
 use Rattle.std.specs.Prelude.{ℕ, zero, suc, ◌+◌, ◌*◌, Bool, true, cond, ◌&&◌, ◌||◌, List, leb, eqb, length, take, drop, get_or}
-use Rattle.unicode.specs.Utf8.{wellFormed}
+use Rattle.characters.specs.Utf8.{wellFormed}
 use Rattle.calls.specs.LittleEndian.{number_at}
 use Rattle.params.specs.declared.Lengths.{Lengths}
 use Rattle.params.specs.declared.Place.{Place}

@@ -1,4 +1,6 @@
 // src/params.rs: the value sheet, `Params::get` over it, `fill` and `lookup`.
+#![tactic(auto)]
+
 mod filling;
 mod getting;
 mod keys;
@@ -14,7 +16,7 @@ pub use looking::{lookup, lookup_part};
 pub use sheet::is_sheet;
 
 // What a sheet holds.
-#[derive(Drop)]
+#[derive(Clone, Copy)]
 pub enum QueryParams {
     None,
     Named,
@@ -22,7 +24,7 @@ pub enum QueryParams {
 }
 
 // An entry's place in a sheet: its number, where its lengths start and where its bodies start.
-#[derive(Drop)]
+#[derive(Clone, Copy)]
 pub struct Place {
     pub entry: usize,
     pub lengths: usize,
@@ -30,28 +32,28 @@ pub struct Place {
 }
 
 // The lengths of an entry's name and value.
-#[derive(Drop)]
+#[derive(Clone, Copy)]
 pub struct Lengths {
     pub name: usize,
     pub value: usize,
 }
 
 // The counter, and the place of the value that is next in turn; behind the last entry where there is none.
-#[derive(Drop)]
+#[derive(Clone, Copy)]
 pub struct Params {
     pub index: u64,
     pub next: Place,
 }
 
 // A part of the statement or a part of the sheet.
-#[derive(Drop)]
+#[derive(Clone, Copy)]
 pub enum Part {
     Statement { start: usize, len: usize },
     Sheet { start: usize, len: usize },
 }
 
 // What a lookup gives: a part, and the counter past it.
-#[derive(Drop)]
+#[derive(Clone, Copy)]
 pub struct Found {
     pub part: Part,
     pub counter: u64,

@@ -1,11 +1,11 @@
 // The value sheet: what its contents tell, and whether it is well formed.
 ghost use Rattle.std.specs.Prelude.{◌≡◌, true, ◌&&◌, ◌+◌, ◌≤◌, ◌<◌, leb, length};
-ghost use Rattle.unicode.specs.Utf8.{wellFormed};
+ghost use Rattle.characters.specs.Utf8.{wellFormed};
 ghost use Rattle.params.specs.Sheet.{params_of, count_of, isNamed, width, lengthsAt, past, place_of, name_at, value_at, bodiesAreUtf8, fillsExactly, isKindAndCount, isSheet};
 
 use crate::{Lengths, Place, QueryParams};
 use calls::le16_at;
-use unicode::{IllFormed, first_ill_formed};
+use characters::{IllFormed, first_ill_formed};
 
 pub fn params_of(sheet: &[u8]) -> QueryParams
     requires { 0 < length sheet.now }

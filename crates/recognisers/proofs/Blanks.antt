@@ -5,13 +5,13 @@ use mathlib.Core.Path.{◌≡◌, refl, sym, ◌∙◌}
 use mathlib.Core.List.{List, [], ◌∷◌}
 use mathlib.Core.Bool.{Bool, true, false}
 use lib.ListN.{length, drop, take}
-use Rattle.unicode.specs.Classes.{isWhitespace}
-use Rattle.unicode.specs.Character.{codePoint}
-use Rattle.unicode.specs.Runs.{inClass, run}
-use Rattle.unicode.specs.declared.Class.TheVariants.{Whitespace}
-use Rattle.unicode.proofs.ClassesApart.{end-not-white}
-use Rattle.unicode.proofs.Rests.{part_end}
-use Rattle.unicode.proofs.RunLaws.{run_inside, run-none-class, run-some-class}
+use Rattle.characters.specs.Classes.{isWhitespace}
+use Rattle.characters.specs.Character.{codePoint}
+use Rattle.characters.specs.Runs.{inClass, run}
+use Rattle.characters.specs.declared.Class.TheVariants.{Whitespace}
+use Rattle.characters.proofs.ClassesApart.{end-not-white}
+use Rattle.characters.proofs.Rests.{part_end}
+use Rattle.characters.proofs.RunLaws.{run_inside, run-none-class, run-some-class}
 use Rattle.recognisers.specs.declared.Taken.{Taken}
 use Rattle.recognisers.specs.declared.Taken.TheVariants.{Fails}
 use Rattle.recognisers.specs.Taking.{Taker, taken, more, capital, isSpelled, spelled, blanks, endOfWord}

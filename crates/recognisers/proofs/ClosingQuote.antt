@@ -11,7 +11,7 @@ use lib.ListN.{length, drop, take, get_or, drop_of_length-le, length-drop}
 use lib.Seq.{drop-cons}
 use lib.Dec.{eqb}
 use borrow.Author.Tests.{eq-eqb, ne_eqb}
-use Rattle.unicode.proofs.Rests.{part_end}
+use Rattle.characters.proofs.Rests.{part_end}
 use Rattle.recognisers.specs.declared.Taken.{Taken}
 use Rattle.recognisers.specs.declared.Taken.TheVariants.{Bytes, Fails}
 use Rattle.recognisers.specs.Taking.{Taker, taken, more, typed, isSpelled, spelled, contains, starts_with}

@@ -15,7 +15,7 @@ use Rattle.recognisers.specs.Text.{bytes}
 use Rattle.recognisers.specs.Taking.{Taker, more, or, done, one, typed, spelled, digit1, digit0, count, isDigit, at_least, contains, startsAmong}
 use Rattle.recognisers.specs.Number.{decimalNumber, signedDigits, exponent, scientificNotation, unsigned}
 use Rattle.recognisers.proofs.ByteLoops.{count-inside}
-use Rattle.unicode.proofs.Rests.{part_end}
+use Rattle.characters.proofs.Rests.{part_end}
 use Rattle.recognisers.proofs.TakenInside.{Inside, or-inside, done-inside, one_inside, spelled-inside, digit0-inside, digit1-inside}
 
 module _ (then : Taker) (s : List ℕ) (n : ℕ) (e : n ≡ count isDigit s) where

@@ -13,7 +13,7 @@ use lib.Dec.{eqb}
 use borrow.Author.Tests.{eq-eqb, ne_eqb}
 use mir.Syntax.{w64}
 use mir.Val.{Fits}
-use Rattle.unicode.proofs.Rests.{part_end}
+use Rattle.characters.proofs.Rests.{part_end}
 use Rattle.recognisers.specs.declared.Taken.{Taken}
 use Rattle.recognisers.specs.declared.Taken.TheVariants.{Bytes, Fails}
 use Rattle.recognisers.specs.declared.Dialect.{Dialect}

@@ -8,15 +8,15 @@ use mathlib.Core.Bool.{Bool, true, false, cond, not, ◌||◌, false≢true}
 use lib.ListN.{drop}
 use lib.Dec.{leb, ltb, eqb}
 use borrow.Author.Tests.{ltb-true, ltb-false, eqb-true}
-use Rattle.unicode.specs.Ranges.{within, inRanges}
-use Rattle.unicode.specs.WhiteSpace.{whiteSpace}
-use Rattle.unicode.specs.Character.{codePoint}
-use Rattle.unicode.specs.Classes.{isWhitespace}
-use Rattle.unicode.specs.Runs.{run}
-use Rattle.unicode.proofs.Below.{all_below, below}
-use Rattle.unicode.proofs.RunLaws.{ascii-first}
-use Rattle.unicode.proofs.WhiteStarts.{white-none, white-two, white-three, white-four}
-use Rattle.unicode.proofs.Within.{within_low, within-high}
+use Rattle.characters.specs.Ranges.{within, inRanges}
+use Rattle.characters.specs.WhiteSpace.{whiteSpace}
+use Rattle.characters.specs.Character.{codePoint}
+use Rattle.characters.specs.Classes.{isWhitespace}
+use Rattle.characters.specs.Runs.{run}
+use Rattle.characters.proofs.Below.{all_below, below}
+use Rattle.characters.proofs.RunLaws.{ascii-first}
+use Rattle.characters.proofs.WhiteStarts.{white-none, white-two, white-three, white-four}
+use Rattle.characters.proofs.Within.{within_low, within-high}
 use Rattle.recognisers.specs.declared.Dialect.{Dialect}
 use Rattle.recognisers.specs.declared.Dialect.TheVariants.{Generic, PostgreSql, SQLServer}
 use Rattle.recognisers.specs.declared.Taken.{Taken}

@@ -18,9 +18,9 @@ use Rattle.recognisers.specs.declared.Recognised.TheVariants.{Token, Nothing}
 use Rattle.recognisers.specs.Taking.{taken, more, or, endOfWord, at_least, starts_with}
 use Rattle.recognisers.specs.Words.{getAnyOtherChar}
 use Rattle.recognisers.specs.Pieces.{piece, tokenOf, alt}
-use Rattle.unicode.specs.declared.Character.{Character}
-use Rattle.unicode.specs.Classes.{isWordCharacter}
-use Rattle.unicode.specs.Character.{character, codePoint}
+use Rattle.characters.specs.declared.Character.{Character}
+use Rattle.characters.specs.Classes.{isWordCharacter}
+use Rattle.characters.specs.Character.{character, codePoint}
 
 module _ (t : Taken) (n : ℕ) (e : t ≡ Bytes n) where
   pub or_bytes : (b : Taken) → Bytes n ≡ or t b

@@ -10,13 +10,13 @@ use lib.ListN.{drop}
 use lib.Seq.{drop-drop}
 use lib.Dec.{leb, ltb, eqb}
 use borrow.Author.Tests.{leb-true, ltb-true, eqb-true}
-use Rattle.unicode.specs.Ranges.{within}
-use Rattle.unicode.specs.Character.{characterLength, codePoint}
-use Rattle.unicode.specs.Classes.{isWhitespace, isWordCharacter, isPlaceholderNameCharacter}
-use Rattle.unicode.specs.Runs.{run}
-use Rattle.unicode.specs.Utf8.{wellFormed}
-use Rattle.unicode.proofs.Within.{within-high}
-use Rattle.unicode.proofs.WellFormedSteps.{well-formed-step}
+use Rattle.characters.specs.Ranges.{within}
+use Rattle.characters.specs.Character.{characterLength, codePoint}
+use Rattle.characters.specs.Classes.{isWhitespace, isWordCharacter, isPlaceholderNameCharacter}
+use Rattle.characters.specs.Runs.{run}
+use Rattle.characters.specs.Utf8.{wellFormed}
+use Rattle.characters.proofs.Within.{within-high}
+use Rattle.characters.proofs.WellFormedSteps.{well-formed-step}
 use Rattle.recognisers.specs.declared.Dialect.{Dialect}
 use Rattle.recognisers.specs.declared.Dialect.TheVariants.{Generic, PostgreSql, SQLServer}
 use Rattle.recognisers.specs.declared.Key.{Key}
@@ -37,7 +37,7 @@ use Rattle.recognisers.specs.Parens.{inPostgreSql, getOpenParenToken, getClosePa
 use Rattle.recognisers.specs.Number.{decimalNumber, signedDigits, exponent, scientificNotation, unsigned, getNumberToken}
 use Rattle.recognisers.specs.Placeholder.{keyed, indexedKey, indexedTaken, getIndexedPlaceholderToken, placeholderName, identTaken, getIdentNamedPlaceholderToken, throughBrace, bracedText, bracedTaken, getBracedNamedPlaceholderToken, stringKey, stringNamedTaken, getStringNamedPlaceholderToken, getPlaceholderToken}
 use Rattle.recognisers.specs.Words.{getWhitespaceToken, isOperator, getOperatorToken, getWordToken, getAnyOtherChar}
-use Rattle.unicode.proofs.WellFormedCuts.{Stop, at-end, before, behind, stop-cut, stop-later, ascii-next, run-cut}
+use Rattle.characters.proofs.WellFormedCuts.{Stop, at-end, before, behind, stop-cut, stop-later, ascii-next, run-cut}
 
 -- ---- what a taker leaves
 

@@ -11,11 +11,11 @@ use lib.ListN.{length, drop, take, get_or}
 use lib.Seq.{length-take-le}
 use lib.Dec.{leb, ltb, eqb}
 use borrow.Author.Tests.{leb-true, ltb-true}
-use Rattle.unicode.specs.Character.{characterLength}
-use Rattle.unicode.specs.Classes.{isWhitespace, isWordCharacter}
-use Rattle.unicode.specs.Runs.{inClass, run}
-use Rattle.unicode.specs.declared.Class.TheVariants as C
-use Rattle.unicode.proofs.RunLaws.{run_inside, character-inside}
+use Rattle.characters.specs.Character.{characterLength}
+use Rattle.characters.specs.Classes.{isWhitespace, isWordCharacter}
+use Rattle.characters.specs.Runs.{inClass, run}
+use Rattle.characters.specs.declared.Class.TheVariants as C
+use Rattle.characters.proofs.RunLaws.{run_inside, character-inside}
 use Rattle.recognisers.specs.declared.Taken.{Taken}
 use Rattle.recognisers.specs.declared.Taken.TheVariants.{Bytes, Fails}
 use Rattle.recognisers.specs.declared.TokenKind.{TokenKind}

@@ -11,10 +11,10 @@ use lib.ListN.{length, drop, take, get_or, drop_of_length-le}
 use lib.Seq.{drop-cons}
 use lib.Dec.{leb, eqb}
 use borrow.Author.Tests.{lt-ltb, le-ltb, le-leb, lt-leb, eq-eqb, ne_eqb}
-use Rattle.unicode.specs.Runs.{inClass, run}
-use Rattle.unicode.specs.Classes.{isPlaceholderNameCharacter}
-use Rattle.unicode.specs.declared.Class.TheVariants.{PlaceholderName}
-use Rattle.unicode.proofs.RunLaws.{run_inside}
+use Rattle.characters.specs.Runs.{inClass, run}
+use Rattle.characters.specs.Classes.{isPlaceholderNameCharacter}
+use Rattle.characters.specs.declared.Class.TheVariants.{PlaceholderName}
+use Rattle.characters.proofs.RunLaws.{run_inside}
 use Rattle.recognisers.specs.declared.Dialect.{Dialect}
 use Rattle.recognisers.specs.declared.Dialect.TheVariants.{Generic, PostgreSql, SQLServer}
 use Rattle.recognisers.specs.declared.Taken.{Taken}

@@ -8,14 +8,14 @@ use mathlib.Core.Bool.{Bool, true, false, cond, not, ◌&&◌, ◌||◌, false�
 use lib.ListN.{drop}
 use lib.Dec.{leb, ltb, eqb}
 use borrow.Author.Tests.{eqb-true, le-leb}
-use Rattle.unicode.specs.Ranges.{within}
-use Rattle.unicode.specs.Ascii.{isLetter, isSpace, asciiKind}
-use Rattle.unicode.specs.Character.{continuations, continued}
-use Rattle.unicode.specs.Classes.{isPlaceholderNameCharacter}
-use Rattle.unicode.specs.Runs.{run}
-use Rattle.unicode.proofs.AsciiRule.{name-byte}
-use Rattle.unicode.proofs.RunLaws.{ascii-first}
-use Rattle.unicode.proofs.Within.{within-high}
+use Rattle.characters.specs.Ranges.{within}
+use Rattle.characters.specs.Ascii.{isLetter, isSpace, asciiKind}
+use Rattle.characters.specs.Character.{continuations, continued}
+use Rattle.characters.specs.Classes.{isPlaceholderNameCharacter}
+use Rattle.characters.specs.Runs.{run}
+use Rattle.characters.proofs.AsciiRule.{name-byte}
+use Rattle.characters.proofs.RunLaws.{ascii-first}
+use Rattle.characters.proofs.Within.{within-high}
 use Rattle.recognisers.specs.declared.Dialect.{Dialect}
 use Rattle.recognisers.specs.declared.Piece.{Piece}
 use Rattle.recognisers.specs.declared.Recognised.{Recognised}

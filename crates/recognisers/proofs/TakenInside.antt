@@ -12,9 +12,9 @@ use Rattle.recognisers.specs.declared.Taken.{Taken}
 use Rattle.recognisers.specs.declared.Taken.TheVariants.{Bytes, Fails}
 use Rattle.recognisers.specs.Taking.{Taker, taken, more, or, done, one, spelled, endOfWord, digit1, digit0, count, isDigit}
 use Rattle.recognisers.proofs.ByteLoops.{count-inside}
-use Rattle.unicode.proofs.Rests.{part_end}
-use Rattle.unicode.specs.Classes.{isWordCharacter}
-use Rattle.unicode.specs.Character.{codePoint}
+use Rattle.characters.proofs.Rests.{part_end}
+use Rattle.characters.specs.Classes.{isWordCharacter}
+use Rattle.characters.specs.Character.{codePoint}
 
 abbrev pub Inside : Taker → Type 0
 Inside part = (s : List ℕ) → taken (part s) ≤ length s

@@ -9,13 +9,13 @@ use mathlib.Core.Bool.{Bool, true, false, cond, and-eq-true_iff}
 use lib.ListN.{length, drop, get_or}
 use lib.Dec.{ltb}
 use borrow.Author.Tests.{ltb-true}
-use Rattle.unicode.specs.Ascii.{isAsciiWord}
-use Rattle.unicode.specs.Classes.{isWordCharacter}
-use Rattle.unicode.specs.Runs.{inClass, run}
-use Rattle.unicode.specs.declared.Class.TheVariants.{Word}
-use Rattle.unicode.specs.Inner.RunAt.{RunAt}
-use Rattle.unicode.proofs.AsciiRule.{word_byte}
-use Rattle.unicode.proofs.RunLaws.{run_step, run_end, byte-stop, ascii-first, ascii-length}
+use Rattle.characters.specs.Ascii.{isAsciiWord}
+use Rattle.characters.specs.Classes.{isWordCharacter}
+use Rattle.characters.specs.Runs.{inClass, run}
+use Rattle.characters.specs.declared.Class.TheVariants.{Word}
+use Rattle.characters.specs.Inner.RunAt.{RunAt}
+use Rattle.characters.proofs.AsciiRule.{word_byte}
+use Rattle.characters.proofs.RunLaws.{run_step, run_end, byte-stop, ascii-first, ascii-length}
 use Rattle.recognisers.specs.Taking.{count}
 use Rattle.recognisers.specs.Inner.WordLength.{wordLength}
 use Rattle.recognisers.proofs.ByteLoops.{count-inside, stopped}

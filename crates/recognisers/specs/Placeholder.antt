@@ -14,8 +14,8 @@ use Rattle.recognisers.specs.Text.{byte, bytes}
 use Rattle.recognisers.specs.Taking.{Taker, more, or, done, one, literal, digit1, at_least, contains, starts_with}
 use Rattle.recognisers.specs.Strings.{placeholderStringTaken, placeholderStringPairs}
 use Rattle.recognisers.specs.Pieces.{piece, quoteToken, alt}
-use Rattle.unicode.specs.Classes.{isPlaceholderNameCharacter}
-use Rattle.unicode.specs.Runs.{run}
+use Rattle.characters.specs.Classes.{isPlaceholderNameCharacter}
+use Rattle.characters.specs.Runs.{run}
 
 -- a placeholder of what was taken, with the key that its length tells
 abbrev pub keyed : (ℕ → Key) → Taken → Recognised

@@ -3,10 +3,10 @@
 use Rattle.std.specs.Prelude.{ℕ, suc, ◌+◌, ◌-◌, Bool, true, false, cond, ◌&&◌, ◌||◌, List, [], ◌∷◌, drop, leb, eqb}
 use Rattle.recognisers.specs.declared.Taken.{Taken}
 use Rattle.recognisers.specs.declared.Taken.TheVariants.{Bytes, Fails}
-use Rattle.unicode.specs.Ranges.{within}
-use Rattle.unicode.specs.Classes.{isWhitespace, isWordCharacter}
-use Rattle.unicode.specs.Character.{codePoint}
-use Rattle.unicode.specs.Runs.{run}
+use Rattle.characters.specs.Ranges.{within}
+use Rattle.characters.specs.Classes.{isWhitespace, isWordCharacter}
+use Rattle.characters.specs.Character.{codePoint}
+use Rattle.characters.specs.Runs.{run}
 
 abbrev pub Taker : Type 0
 Taker = List ℕ → Taken

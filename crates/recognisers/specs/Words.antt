@@ -6,9 +6,9 @@ use Rattle.recognisers.specs.declared.Recognised.{Recognised}
 use Rattle.recognisers.specs.Text.{byte, bytes}
 use Rattle.recognisers.specs.Taking.{count, at_least, contains, starts_with}
 use Rattle.recognisers.specs.Pieces.{tokenOf}
-use Rattle.unicode.specs.Classes.{isWhitespace, isWordCharacter}
-use Rattle.unicode.specs.Character.{characterLength}
-use Rattle.unicode.specs.Runs.{run}
+use Rattle.characters.specs.Classes.{isWhitespace, isWordCharacter}
+use Rattle.characters.specs.Character.{characterLength}
+use Rattle.characters.specs.Runs.{run}
 
 unfoldable pub getWhitespaceToken : List ℕ → Recognised
 getWhitespaceToken s = tokenOf Whitespace (at_least 1 (run isWhitespace 0 s))

@@ -1,5 +1,7 @@
 // The recognisers of src/tokenizer.rs that look at the text alone, each under its Rust name. A recogniser gets the rest of the
 // statement from the present token on, and asks its first byte before it tries: most of them few bytes can begin.
+#![tactic(auto)]
+
 mod comment;
 mod comparing;
 mod escaped_quotes;
@@ -31,14 +33,14 @@ pub use type_specifier::get_type_specifier_token;
 pub use words::{get_any_other_char, get_operator_token, get_whitespace_token, get_word_token};
 
 // The SQL dialect, as in src/lib.rs.
-#[derive(Drop)]
+#[derive(Clone, Copy)]
 pub enum Dialect {
     Generic,
     PostgreSql,
     SQLServer,
 }
 
-#[derive(Drop)]
+#[derive(Clone, Copy)]
 pub enum TokenKind {
     TypeSpecifier,
     Whitespace,
@@ -61,7 +63,7 @@ pub enum TokenKind {
 
 // What a placeholder asks for: nothing, a name that stands in the text, such a name with escapes to undo, or a place that
 // counts from 0 or from 1.
-#[derive(Drop)]
+#[derive(Clone, Copy)]
 pub enum Key {
     None,
     Named { start: usize, len: usize },
@@ -72,7 +74,7 @@ pub enum Key {
 
 // A token at the start of a rest: the alias is the value's first part, and a key's start counts from there. `escaped` is how many
 // quotes of a string are escaped.
-#[derive(Drop)]
+#[derive(Clone, Copy)]
 pub struct Piece {
     pub kind: TokenKind,
     pub len: usize,
@@ -82,21 +84,21 @@ pub struct Piece {
 }
 
 // What a recogniser answers: the Rust's `Result<Token>`.
-#[derive(Drop)]
+#[derive(Clone, Copy)]
 pub enum Recognised {
     Token(Piece),
     Nothing,
 }
 
 // What digits spell.
-#[derive(Drop)]
+#[derive(Clone, Copy)]
 pub enum Number {
     Is(u64),
     Overflows,
 }
 
 // How many bytes of a rest a part of a recogniser takes.
-#[derive(Drop)]
+#[derive(Clone, Copy)]
 pub enum Taken {
     Bytes(usize),
     Fails,

@@ -8,7 +8,7 @@ use crate::scan::{
     token_of,
 };
 use crate::{Dialect, Recognised, Taken, TokenKind};
-use unicode::Class;
+use characters::Class;
 
 fn square(rest: &[u8], bracket: &[u8], dialect: Dialect) -> Taken
     ensures { result ≡ inPostgreSql dialect (literal bracket.now done) rest.now }
@@ -45,7 +45,7 @@ pub fn get_open_paren_token(rest: &[u8], dialect: Dialect) -> Recognised
 fn blanks_then_word(rest: &[u8], word: &[u8]) -> Taken
     ensures { result ≡ blanks (caseless word.now endOfWord) rest.now }
 {
-    let n = unicode::run_of(rest, Class::Whitespace);
+    let n = characters::run_of(rest, Class::Whitespace);
     if n == 0 {
         return Taken::Fails;
     }

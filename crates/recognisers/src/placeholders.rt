@@ -16,7 +16,7 @@ use crate::scan::{
 };
 use crate::strings::placeholder_string_taken;
 use crate::{Dialect, Key, Number, Piece, Recognised, Taken, TokenKind};
-use unicode::Class;
+use characters::Class;
 
 fn digit_of(b: u8) -> u64
     ensures { result ≡ b - 48 }
@@ -101,7 +101,7 @@ fn less(n: usize, k: usize) -> usize
 fn placeholder_name(rest: &[u8]) -> Taken
     ensures { result ≡ placeholderName rest.now }
 {
-    at_least(1, unicode::run_of(rest, Class::PlaceholderName))
+    at_least(1, characters::run_of(rest, Class::PlaceholderName))
 }
 
 fn marked_name(rest: &[u8], marks: &[u8]) -> Taken

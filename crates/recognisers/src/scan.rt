@@ -1,6 +1,6 @@
 // What the recognisers are made of.
 ghost use Rattle.std.specs.Prelude.{◌≡◌, ◌+◌, ◌^◌, ◌<◌, leb, eqb, ◌&&◌, length, drop};
-ghost use Rattle.unicode.specs.Ranges.{within};
+ghost use Rattle.characters.specs.Ranges.{within};
 ghost use Rattle.recognisers.specs.Taking.{taken, more, or, done, literal, caseless, typed, capital, isSpelled, endOfWord, isDigit, count, at_least, contains, starts_with, startsAmong};
 ghost use Rattle.recognisers.specs.Pieces.{tokenOf};
 ghost use Rattle.recognisers.specs.Inner.WordLength.{wordLength};
@@ -132,7 +132,7 @@ pub fn word_length(rest: &[u8]) -> usize
 {
     let mut i = 0;
     while i < rest.len() {
-        if unicode::is_ascii_word(rest[i]) {
+        if characters::is_ascii_word(rest[i]) {
             i += 1;
         } else {
             return i;
@@ -173,8 +173,8 @@ pub fn at_least(least: usize, n: usize) -> Taken
 pub fn end_of_word(rest: &[u8]) -> Taken
     ensures { result ≡ endOfWord rest.now }
 {
-    let c = unicode::character_at(rest, 0);
-    if unicode::is_word_character(c.code_point) {
+    let c = characters::character_at(rest, 0);
+    if characters::is_word_character(c.code_point) {
         Taken::Fails
     } else {
         Taken::Bytes(0)

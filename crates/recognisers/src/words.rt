@@ -3,20 +3,20 @@ ghost use Rattle.std.specs.Prelude.{◌≡◌, ◌||◌, min};
 ghost use Rattle.recognisers.specs.Taking.{count, starts_with};
 ghost use Rattle.recognisers.specs.Text.{byte};
 ghost use Rattle.recognisers.specs.Inner.WordLength.{wordLength};
-ghost use Rattle.unicode.specs.Classes.{isWordCharacter};
-ghost use Rattle.unicode.specs.Runs.{run};
+ghost use Rattle.characters.specs.Classes.{isWordCharacter};
+ghost use Rattle.characters.specs.Runs.{run};
 ghost use Rattle.recognisers.specs.Words.{getWhitespaceToken, isOperator, getOperatorToken, getWordToken, getAnyOtherChar};
 
 use crate::scan::{at_least, is_among, stands_at, starts_among, token_of};
 use crate::{Recognised, TokenKind};
-use unicode::Class;
+use characters::Class;
 
 fn try_whitespace(rest: &[u8]) -> Recognised
     ensures { result ≡ getWhitespaceToken rest.now }
 {
     token_of(
         TokenKind::Whitespace,
-        at_least(1, unicode::run_of(rest, Class::Whitespace)),
+        at_least(1, characters::run_of(rest, Class::Whitespace)),
     )
 }
 
@@ -82,7 +82,7 @@ fn word_end(rest: &[u8], word: usize) -> usize
     if rest[word] < 128 {
         return word;
     }
-    unicode::run_from(rest, word, Class::Word)
+    characters::run_from(rest, word, Class::Word)
 }
 
 // `word` is what `word_length` tells of the rest.
@@ -106,6 +106,6 @@ pub fn get_any_other_char(rest: &[u8]) -> Recognised
     if is_line_break(rest) {
         return Recognised::Nothing;
     }
-    let c = unicode::character_at(rest, 0);
+    let c = characters::character_at(rest, 0);
     token_of(TokenKind::Operator, at_least(1, c.len))
 }

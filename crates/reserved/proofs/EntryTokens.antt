@@ -7,7 +7,7 @@ use mathlib.Core.List.{List, [], ◌∷◌, ◌++◌}
 use mathlib.Core.Bool.{Bool, true, false, false≢true}
 use lib.ListN.{length, get_or}
 use lib.Dec.{eqb}
-use Rattle.unicode.specs.Ranges.{within}
+use Rattle.characters.specs.Ranges.{within}
 use Rattle.recognisers.specs.declared.Taken.{Taken}
 use Rattle.recognisers.specs.declared.Taken.TheVariants.{Bytes, Fails}
 use Rattle.recognisers.specs.declared.TokenKind.TheVariants.{Reserved, ReservedTopLevelNoIndent, ReservedNewlineAfter, Join}

@@ -8,8 +8,8 @@ use mathlib.Core.Bool.{Bool, true, false, cond, not, ◌&&◌, false≢true, and
 use lib.ListN.{drop}
 use lib.Dec.{eqb}
 use borrow.Author.Tests.{not-true, eqb-true, ne_eqb}
-use Rattle.unicode.specs.Ranges.{within}
-use Rattle.unicode.proofs.Within.{within_low}
+use Rattle.characters.specs.Ranges.{within}
+use Rattle.characters.proofs.Within.{within_low}
 use Rattle.recognisers.specs.declared.Recognised.TheVariants as R
 use Rattle.recognisers.specs.Taking.{one, capital, starts_with}
 use Rattle.reserved.specs.declared.TopLevel.{TopLevel}

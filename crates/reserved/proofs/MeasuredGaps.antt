@@ -10,9 +10,9 @@ use lib.Dec.{eqb}
 use lib.ListN.{length, drop, take, get_or, set, drop_of_length-le, length-set}
 use lib.Seq.{get_or-set_same, get_or-set_other}
 use borrow.Author.Tests.{eqb-true, eq-eqb}
-use Rattle.unicode.specs.Runs.{inClass, run}
-use Rattle.unicode.specs.declared.Class.TheVariants.{Whitespace}
-use Rattle.unicode.proofs.Rests.{part_end}
+use Rattle.characters.specs.Runs.{inClass, run}
+use Rattle.characters.specs.declared.Class.TheVariants.{Whitespace}
+use Rattle.characters.proofs.Rests.{part_end}
 use Rattle.reserved.specs.Inner.Gaps.{Measured}
 use Rattle.reserved.proofs.PhraseWalk.{WalkAt}
 

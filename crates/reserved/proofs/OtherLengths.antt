@@ -7,15 +7,15 @@ use mathlib.Core.List.{List, [], ◌∷◌}
 use mathlib.Core.Bool.{Bool, true, false, cond, not, ◌&&◌, beq, false≢true, true≢false, and-eq-true_iff}
 use lib.Dec.{ltb, eqb}
 use borrow.Author.Tests.{ltb-true, ltb-false, eqb-true, eqb-false}
-use Rattle.unicode.specs.Ranges.{within}
-use Rattle.unicode.specs.Ascii.{isLetter, isAsciiWord}
-use Rattle.unicode.specs.Character.{codePoint}
-use Rattle.unicode.specs.Classes.{isWhitespace, isWordCharacter}
-use Rattle.unicode.proofs.AsciiRule.{word_byte}
-use Rattle.unicode.proofs.Below.{all_below, below}
-use Rattle.unicode.proofs.ClassesApart.{white-no-word}
-use Rattle.unicode.proofs.RunLaws.{ascii-first}
-use Rattle.unicode.proofs.Within.{above-not}
+use Rattle.characters.specs.Ranges.{within}
+use Rattle.characters.specs.Ascii.{isLetter, isAsciiWord}
+use Rattle.characters.specs.Character.{codePoint}
+use Rattle.characters.specs.Classes.{isWhitespace, isWordCharacter}
+use Rattle.characters.proofs.AsciiRule.{word_byte}
+use Rattle.characters.proofs.Below.{all_below, below}
+use Rattle.characters.proofs.ClassesApart.{white-no-word}
+use Rattle.characters.proofs.RunLaws.{ascii-first}
+use Rattle.characters.proofs.Within.{above-not}
 use Rattle.recognisers.specs.declared.Taken.TheVariants.{Fails}
 use Rattle.recognisers.specs.Inner.WordLength.{wordLength}
 use Rattle.recognisers.specs.Taking.{Taker, more, one, capital, blanks, endOfWord, count, contains}

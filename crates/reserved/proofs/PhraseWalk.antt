@@ -13,15 +13,15 @@ use lib.Dec.{eqb}
 use mir.Syntax.{w64}
 use mir.Val.{Fits}
 use borrow.Author.Tests.{eq-eqb, ne_eqb}
-use Rattle.unicode.specs.Classes.{isWhitespace}
-use Rattle.unicode.specs.Character.{codePoint}
-use Rattle.unicode.specs.Runs.{inClass, run}
-use Rattle.unicode.specs.declared.Class.TheVariants.{Whitespace}
+use Rattle.characters.specs.Classes.{isWhitespace}
+use Rattle.characters.specs.Character.{codePoint}
+use Rattle.characters.specs.Runs.{inClass, run}
+use Rattle.characters.specs.declared.Class.TheVariants.{Whitespace}
 use Rattle.recognisers.specs.declared.Taken.{Taken}
 use Rattle.recognisers.specs.declared.Taken.TheVariants.{Bytes, Fails}
 use Rattle.recognisers.specs.Taking.{Taker, taken, more, done, one, capital, blanks, endOfWord}
 use Rattle.recognisers.specs.Text.{bytes}
-use Rattle.unicode.proofs.Rests.{part_end}
+use Rattle.characters.proofs.Rests.{part_end}
 use Rattle.recognisers.proofs.Spelling.{more-zero, more-more}
 use Rattle.recognisers.proofs.TakenInside.{Inside, done-inside, one_inside, end-of-word-inside, fits_more}
 use Rattle.recognisers.proofs.Blanks.{blanks-none, blanks-then, blanks-inside}

@@ -8,16 +8,16 @@ use mathlib.Core.Bool.{Bool, true, false, cond, ◌&&◌, false≢true, and-eq-t
 use lib.ListN.{take, drop}
 use lib.Dec.{eqb}
 use borrow.Author.Tests.{eqb-true, eqb-false, ne_eqb}
-use Rattle.unicode.specs.Ranges.{within}
-use Rattle.unicode.specs.Classes.{isWhitespace, isWordCharacter}
-use Rattle.unicode.specs.Character.{isContinuation, continuations, continued, firstBits, with_bits, codePoint}
-use Rattle.unicode.specs.Runs.{run}
+use Rattle.characters.specs.Ranges.{within}
+use Rattle.characters.specs.Classes.{isWhitespace, isWordCharacter}
+use Rattle.characters.specs.Character.{isContinuation, continuations, continued, firstBits, with_bits, codePoint}
+use Rattle.characters.specs.Runs.{run}
 use Rattle.recognisers.specs.declared.Taken.{Taken}
 use Rattle.recognisers.specs.declared.Taken.TheVariants.{Bytes, Fails}
 use Rattle.recognisers.specs.Taking.{Taker, more, done, one, typed, spelled, literal, capital, blanks, endOfWord}
 use Rattle.reserved.specs.Phrases.{walk}
 use Rattle.reserved.specs.UcWords.{notWhitespace, trimStart, is_empty, splitWhitespace, spaced, toAsciiUppercase}
-use Rattle.unicode.proofs.ClassesApart.{white-no-word, end-not-white, end-no-word}
+use Rattle.characters.proofs.ClassesApart.{white-no-word, end-not-white, end-no-word}
 use Rattle.reserved.proofs.UcBytes.{isVisible, visible-alone, visible-first, capital-visible, space-first, other-no-space, letter-word, capital-other, continuation-stays, continuation-capital}
 
 -- ---- the shape of a phrase

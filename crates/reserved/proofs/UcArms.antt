@@ -6,8 +6,8 @@ use Prim.Native.Nat.{ℕ, suc}
 use mathlib.Core.List.{List, [], ◌∷◌, ◌++◌}
 use mathlib.Core.Bool.{Bool, true, false, cond, ◌&&◌, and-eq-true_iff}
 use lib.Dec.{eqb}
-use Rattle.unicode.specs.Classes.{isWhitespace}
-use Rattle.unicode.specs.Character.{continuations, continued, codePoint}
+use Rattle.characters.specs.Classes.{isWhitespace}
+use Rattle.characters.specs.Character.{continuations, continued, codePoint}
 use Rattle.recognisers.specs.declared.Taken.{Taken}
 use Rattle.recognisers.specs.declared.Taken.TheVariants.{Bytes, Fails}
 use Rattle.recognisers.specs.Text.{bytes}

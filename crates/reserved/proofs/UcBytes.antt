@@ -7,12 +7,12 @@ use mathlib.Core.List.{List, ◌∷◌}
 use mathlib.Core.Bool.{Bool, true, false, false≢true}
 use lib.Dec.{eqb}
 use borrow.Author.Tests.{lt-ltb, ne_eqb}
-use Rattle.unicode.specs.Ranges.{within}
-use Rattle.unicode.specs.Classes.{isWhitespace, isWordCharacter}
-use Rattle.unicode.specs.Character.{isContinuation, continuations, continued, codePoint}
-use Rattle.unicode.proofs.Within.{within_low, within-high, within-is, below-not, above-not}
-use Rattle.unicode.proofs.ClassesApart.{visible-not-white, space-white, capital-word, small_word}
-use Rattle.unicode.proofs.RunLaws.{ascii-first}
+use Rattle.characters.specs.Ranges.{within}
+use Rattle.characters.specs.Classes.{isWhitespace, isWordCharacter}
+use Rattle.characters.specs.Character.{isContinuation, continuations, continued, codePoint}
+use Rattle.characters.proofs.Within.{within_low, within-high, within-is, below-not, above-not}
+use Rattle.characters.proofs.ClassesApart.{visible-not-white, space-white, capital-word, small_word}
+use Rattle.characters.proofs.RunLaws.{ascii-first}
 use Rattle.recognisers.specs.Taking.{capital}
 
 -- ---- visible ASCII

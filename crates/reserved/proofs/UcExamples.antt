@@ -3,15 +3,15 @@
 use mathlib.Core.Path.{◌≡◌, refl}
 use mathlib.Core.Bool.{false}
 use mathlib.Core.List.{[], ◌∷◌, ◌++◌}
-use Rattle.unicode.specs.Ranges.{within, inRanges}
-use Rattle.unicode.specs.WhiteSpace.{whiteSpace}
-use Rattle.unicode.specs.Alphabetic.{alphabetic}
-use Rattle.unicode.specs.Numeric.{numeric}
-use Rattle.unicode.specs.Mark.{mark}
-use Rattle.unicode.specs.Connector.{connector}
-use Rattle.unicode.specs.Classes.{isWhitespace, isAlphabetic, isNumeric, isMark, isPunctuationConnector, isAlphanumeric, isWordCharacter}
-use Rattle.unicode.specs.Character.{isContinuation, continuations, continued, firstBits, with_bits, codePoint}
-use Rattle.unicode.specs.Runs.{run}
+use Rattle.characters.specs.Ranges.{within, inRanges}
+use Rattle.characters.specs.WhiteSpace.{whiteSpace}
+use Rattle.characters.specs.Alphabetic.{alphabetic}
+use Rattle.characters.specs.Numeric.{numeric}
+use Rattle.characters.specs.Mark.{mark}
+use Rattle.characters.specs.Connector.{connector}
+use Rattle.characters.specs.Classes.{isWhitespace, isAlphabetic, isNumeric, isMark, isPunctuationConnector, isAlphanumeric, isWordCharacter}
+use Rattle.characters.specs.Character.{isContinuation, continuations, continued, firstBits, with_bits, codePoint}
+use Rattle.characters.specs.Runs.{run}
 use Rattle.recognisers.specs.declared.Taken.TheVariants.{Bytes, Fails}
 use Rattle.recognisers.specs.Text.{bytes}
 use Rattle.recognisers.specs.Taking.{one, spelled, isSpelled, typed, capital, endOfWord}

@@ -11,10 +11,10 @@ use mathlib.Core.Bool.{Bool, true, false, cond, ◌&&◌, false≢true, and-eq-t
 use lib.ListN.{length, drop}
 use lib.Dec.{eqb}
 use borrow.Author.Tests.{eqb-true, eqb-false, ne_eqb}
-use Rattle.unicode.specs.Ranges.{within}
-use Rattle.unicode.specs.Classes.{isWhitespace}
-use Rattle.unicode.specs.Character.{isContinuation, continuations, continued, codePoint}
-use Rattle.unicode.specs.Runs.{run}
+use Rattle.characters.specs.Ranges.{within}
+use Rattle.characters.specs.Classes.{isWhitespace}
+use Rattle.characters.specs.Character.{isContinuation, continuations, continued, codePoint}
+use Rattle.characters.specs.Runs.{run}
 use Rattle.recognisers.specs.declared.Taken.{Taken}
 use Rattle.recognisers.specs.declared.Taken.TheVariants.{Bytes, Fails}
 use Rattle.recognisers.specs.Taking.{taken, more, done, typed, isSpelled, capital}

@@ -6,11 +6,11 @@ use Prim.Native.Nat.{ℕ}
 use mathlib.Core.Path.{◌≡◌, refl, sym, ◌∙◌}
 use mathlib.Core.List.{List, [], ◌∷◌, ◌++◌}
 use mathlib.Core.Bool.{Bool, true, false, ◌&&◌, false≢true, and-eq-true_iff}
-use Rattle.unicode.specs.Ranges.{within, inRanges}
-use Rattle.unicode.specs.WhiteSpace.{whiteSpace}
-use Rattle.unicode.specs.Classes.{isWhitespace}
-use Rattle.unicode.specs.Character.{isContinuation, continuations, continued, firstBits, with_bits, codePoint}
-use Rattle.unicode.specs.Runs.{run}
+use Rattle.characters.specs.Ranges.{within, inRanges}
+use Rattle.characters.specs.WhiteSpace.{whiteSpace}
+use Rattle.characters.specs.Classes.{isWhitespace}
+use Rattle.characters.specs.Character.{isContinuation, continuations, continued, firstBits, with_bits, codePoint}
+use Rattle.characters.specs.Runs.{run}
 use Rattle.recognisers.specs.declared.Taken.{Taken}
 use Rattle.recognisers.specs.declared.Taken.TheVariants.{Bytes, Fails}
 use Rattle.recognisers.specs.Text.{bytes}

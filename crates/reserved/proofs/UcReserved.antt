@@ -7,9 +7,9 @@ use mathlib.Core.Bool.{Bool, true, false, ◌||◌, false≢true}
 use lib.Dec.{eqb}
 use borrow.Author.Tests.{eqb-true}
 use native.Mathlib.Omega.{arith}
-use Rattle.unicode.specs.Ranges.{within}
-use Rattle.unicode.specs.Classes.{isWhitespace}
-use Rattle.unicode.specs.Character.{codePoint}
+use Rattle.characters.specs.Ranges.{within}
+use Rattle.characters.specs.Classes.{isWhitespace}
+use Rattle.characters.specs.Character.{codePoint}
 use Rattle.recognisers.specs.Taking.{capital, starts_with}
 use Rattle.reserved.specs.declared.TopLevel.{TopLevel}
 use Rattle.reserved.specs.Reserved.{mayBeReserved, getTopLevelReservedToken, getNewlineAfterReservedToken, getNewlineReservedToken, getJoinToken, getTopLevelReservedTokenNoIndent, getPlainReservedToken, getReservedWordToken}
@@ -18,7 +18,7 @@ use Rattle.reserved.specs.TopLevel.{topLevelPhrases}
 use Rattle.reserved.specs.UcWords.{getUcWords, finalized, firstByUcWords}
 use Rattle.reserved.specs.UcChoices.{topLevelByUcWords}
 use Rattle.reserved.specs.UcReserved.{getReservedWordTokenByUcWords}
-use Rattle.unicode.proofs.Within.{within_low, within-high, within-is}
+use Rattle.characters.proofs.Within.{within_low, within-high, within-is}
 use Rattle.reserved.proofs.UcBytes.{isVisible, capital-visible, visible-first}
 use Rattle.reserved.proofs.UcArms.{top-level-arms}
 use Rattle.reserved.proofs.UcGroups.{top-level-agrees, newline-after-agrees, newline-agrees, join-agrees, no-indent-agrees, plain-two-agrees, plain-one-agrees}

@@ -8,9 +8,9 @@ use mathlib.Core.Bool.{Bool, true, false, cond, ◌&&◌, false≢true, true≢f
 use lib.ListN.{length, take, drop}
 use lib.Dec.{eqb}
 use borrow.Author.Tests.{eqb-true}
-use Rattle.unicode.specs.Classes.{isWhitespace, isWordCharacter}
-use Rattle.unicode.specs.Character.{codePoint}
-use Rattle.unicode.specs.Runs.{run}
+use Rattle.characters.specs.Classes.{isWhitespace, isWordCharacter}
+use Rattle.characters.specs.Character.{codePoint}
+use Rattle.characters.specs.Runs.{run}
 use Rattle.recognisers.specs.declared.Taken.{Taken}
 use Rattle.recognisers.specs.declared.Taken.TheVariants.{Bytes, Fails}
 use Rattle.recognisers.specs.Text.{bytes}

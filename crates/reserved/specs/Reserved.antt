@@ -11,7 +11,7 @@ use Rattle.recognisers.specs.Text.{byte, bytes}
 use Rattle.recognisers.specs.Same.{same}
 use Rattle.recognisers.specs.Taking.{typed, isSpelled, capital, starts_with}
 use Rattle.recognisers.specs.Pieces.{piece, tokenOf, alt}
-use Rattle.unicode.specs.Ranges.{within}
+use Rattle.characters.specs.Ranges.{within}
 use Rattle.reserved.specs.declared.TopLevel.{TopLevel}
 use Rattle.reserved.specs.declared.TopLevel.TheVariants.{Select, Update, MergeInto, DeleteFrom, Other}
 use Rattle.reserved.specs.Phrases.{firstPhrase}

@@ -5,8 +5,8 @@ use Rattle.recognisers.specs.declared.Taken.{Taken}
 use Rattle.recognisers.specs.declared.Taken.TheVariants.{Bytes, Fails}
 use Rattle.recognisers.specs.Text.{byte, bytes}
 use Rattle.recognisers.specs.Taking.{Taker, taken, more, or, done, typed, isSpelled, capital, literal, endOfWord}
-use Rattle.unicode.specs.Classes.{isWhitespace}
-use Rattle.unicode.specs.Runs.{run}
+use Rattle.characters.specs.Classes.{isWhitespace}
+use Rattle.characters.specs.Runs.{run}
 use Rattle.reserved.specs.Phrases.{Phrase, phrase, phraseIfExists, after}
 
 abbrev pub notWhitespace : ℕ → Bool

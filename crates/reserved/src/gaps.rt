@@ -1,11 +1,11 @@
 // The gaps between the words of a phrase, each walked once however many phrases begin alike: the place in the rest of the first, the
 // second and the third that was looked at, and behind these how long they are.
 ghost use Rattle.std.specs.Prelude.{◌≡◌, [], ◌∷◌, ◌≤◌, ◌<◌, length, drop};
-ghost use Rattle.unicode.specs.Runs.{run, inClass};
-ghost use Rattle.unicode.specs.declared.Class.TheVariants.{Whitespace};
+ghost use Rattle.characters.specs.Runs.{run, inClass};
+ghost use Rattle.characters.specs.declared.Class.TheVariants.{Whitespace};
 ghost use Rattle.reserved.specs.Inner.Gaps.{Measured};
 
-use unicode::Class;
+use characters::Class;
 
 const SLOTS: usize = 3;
 
@@ -42,7 +42,7 @@ pub fn gap_at(rest: &[u8], at: usize, slot: usize, gaps: &mut [usize]) -> usize
     if gaps[slot] == at {
         return gaps[slot + SLOTS];
     }
-    let n = unicode::run_of(&rest[at..], Class::Whitespace);
+    let n = characters::run_of(&rest[at..], Class::Whitespace);
     gaps[slot] = at;
     gaps[slot + SLOTS] = n;
     n

@@ -1,4 +1,6 @@
 // `get_reserved_word_token` and the reserved phrases of src/tokenizer.rs.
+#![tactic(auto)]
+
 mod find;
 mod gaps;
 mod phrases;
@@ -8,7 +10,7 @@ mod words;
 pub use words::get_reserved_word_token;
 
 // What is asked of the last top-level token's alias: which of these it is exactly, if any.
-#[derive(Drop)]
+#[derive(Clone, Copy)]
 pub enum TopLevel {
     Select,
     Update,

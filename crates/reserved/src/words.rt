@@ -1,6 +1,6 @@
 // `get_reserved_word_token`, and what EXCEPT, SET, USING and AND ask of earlier tokens.
 ghost use Rattle.std.specs.Prelude.{◌≡◌, not, ◌&&◌, ◌||◌, ◌≤◌, length, drop, get_or};
-ghost use Rattle.unicode.specs.Ranges.{within};
+ghost use Rattle.characters.specs.Ranges.{within};
 ghost use Rattle.recognisers.specs.Text.{byte, bytes};
 ghost use Rattle.recognisers.specs.Same.{same};
 ghost use Rattle.recognisers.specs.Taking.{typed, isSpelled, capital, starts_with};

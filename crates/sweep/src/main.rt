@@ -1,5 +1,7 @@
 // Puts every number from 0 to 0x10FFFF through each class function of `unicode`, and prints each class's name and the
 // ranges that it finds, their first and last code point in hexadecimal.
+#![tactic(auto)]
+
 use libc::STDOUT_FILENO;
 
 const CLASSES: u32 = 8;
@@ -19,14 +21,14 @@ fn name(class: u32) -> bool {
 
 fn contains(class: u32, c: u32) -> bool {
     match class {
-        0 => unicode::is_whitespace(c),
-        1 => unicode::is_alphabetic(c),
-        2 => unicode::is_numeric(c),
-        3 => unicode::is_mark(c),
-        4 => unicode::is_punctuation_connector(c),
-        5 => unicode::is_alphanumeric(c),
-        6 => unicode::is_word_character(c),
-        _ => unicode::is_placeholder_name_character(c),
+        0 => characters::is_whitespace(c),
+        1 => characters::is_alphabetic(c),
+        2 => characters::is_numeric(c),
+        3 => characters::is_mark(c),
+        4 => characters::is_punctuation_connector(c),
+        5 => characters::is_alphanumeric(c),
+        6 => characters::is_word_character(c),
+        _ => characters::is_placeholder_name_character(c),
     }
 }
 

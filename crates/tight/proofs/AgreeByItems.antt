@@ -8,8 +8,8 @@ use mathlib.Core.Bool.{Bool, true, false, cond, not, ◌&&◌, false≢true}
 use lib.ListN.{drop}
 use lib.Seq.{drop-drop}
 use borrow.Author.Tests.{ne_eqb}
-use Rattle.unicode.specs.Classes.{isWhitespace}
-use Rattle.unicode.specs.Runs.{run}
+use Rattle.characters.specs.Classes.{isWhitespace}
+use Rattle.characters.specs.Runs.{run}
 use Rattle.recognisers.specs.declared.TokenKind.{TokenKind}
 use Rattle.recognisers.specs.declared.TokenKind.TheVariants as K
 use Rattle.recognisers.specs.Kinds.{isKind}

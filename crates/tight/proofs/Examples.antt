@@ -9,15 +9,15 @@ use Rattle.recognisers.specs.declared.TokenKind.{TokenKind}
 use Rattle.recognisers.specs.declared.TokenKind.TheVariants as K
 use Rattle.recognisers.specs.Text.{bytes}
 use Rattle.calls.specs.declared.Settings.{Settings}
-use Rattle.unicode.specs.Alphabetic.{alphabetic}
-use Rattle.unicode.specs.Character.{isContinuation, continuations, continued, firstBits, with_bits, characterLength, codePoint, character}
-use Rattle.unicode.specs.Classes.{isWhitespace, isAlphabetic, isNumeric, isMark, isPunctuationConnector, isAlphanumeric, isWordCharacter, isPlaceholderNameCharacter}
-use Rattle.unicode.specs.Connector.{connector}
-use Rattle.unicode.specs.Mark.{mark}
-use Rattle.unicode.specs.Numeric.{numeric}
-use Rattle.unicode.specs.Ranges.{within, inRanges}
-use Rattle.unicode.specs.Runs.{inClass, run}
-use Rattle.unicode.specs.WhiteSpace.{whiteSpace}
+use Rattle.characters.specs.Alphabetic.{alphabetic}
+use Rattle.characters.specs.Character.{isContinuation, continuations, continued, firstBits, with_bits, characterLength, codePoint, character}
+use Rattle.characters.specs.Classes.{isWhitespace, isAlphabetic, isNumeric, isMark, isPunctuationConnector, isAlphanumeric, isWordCharacter, isPlaceholderNameCharacter}
+use Rattle.characters.specs.Connector.{connector}
+use Rattle.characters.specs.Mark.{mark}
+use Rattle.characters.specs.Numeric.{numeric}
+use Rattle.characters.specs.Ranges.{within, inRanges}
+use Rattle.characters.specs.Runs.{inClass, run}
+use Rattle.characters.specs.WhiteSpace.{whiteSpace}
 use Rattle.recognisers.specs.Comment.{tillLineEnding, throughBlockEnd, getCommentToken}
 use Rattle.recognisers.specs.Number.{decimalNumber, signedDigits, exponent, scientificNotation, unsigned, getNumberToken}
 use Rattle.recognisers.specs.Parens.{getOpenParenToken, getCloseParenToken}

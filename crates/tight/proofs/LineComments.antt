@@ -9,10 +9,10 @@ use mathlib.Core.Bool.{Bool, true, false, cond, not, ◌||◌, false≢true}
 use lib.ListN.{take, drop}
 use lib.Dec.{eqb}
 use borrow.Author.Tests.{eqb-true}
-use Rattle.unicode.specs.Ranges.{within, inRanges}
-use Rattle.unicode.specs.WhiteSpace.{whiteSpace}
-use Rattle.unicode.specs.Character.{continuations, continued, firstBits, with_bits, codePoint}
-use Rattle.unicode.specs.Classes.{isWhitespace}
+use Rattle.characters.specs.Ranges.{within, inRanges}
+use Rattle.characters.specs.WhiteSpace.{whiteSpace}
+use Rattle.characters.specs.Character.{continuations, continued, firstBits, with_bits, codePoint}
+use Rattle.characters.specs.Classes.{isWhitespace}
 use Rattle.recognisers.specs.declared.Taken.{Taken}
 use Rattle.recognisers.specs.declared.Taken.TheVariants.{Bytes, Fails}
 use Rattle.recognisers.specs.Taking.{more, starts_with}

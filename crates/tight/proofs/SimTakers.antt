@@ -9,15 +9,15 @@ use mathlib.Core.Bool.{Bool, true, false, cond, not, ◌&&◌, false≢true}
 use lib.ListN.{drop}
 use lib.Dec.{leb, eqb}
 use borrow.Author.Tests.{le-leb}
-use Rattle.unicode.specs.Character.{isContinuation, continuations, continued}
-use Rattle.unicode.specs.Classes.{isWhitespace, isWordCharacter}
-use Rattle.unicode.specs.Runs.{run}
+use Rattle.characters.specs.Character.{isContinuation, continuations, continued}
+use Rattle.characters.specs.Classes.{isWhitespace, isWordCharacter}
+use Rattle.characters.specs.Runs.{run}
 use Rattle.recognisers.specs.declared.Taken.{Taken}
 use Rattle.recognisers.specs.declared.Taken.TheVariants.{Bytes, Fails}
 use Rattle.recognisers.specs.Taking.{Taker, or, done, one, spelled, typed, blanks, endOfWord, digit0, digit1, count, isDigit, contains}
 use Rattle.recognisers.specs.Taking as T
 use Rattle.recognisers.proofs.Spelling.{more-zero, more-more}
-use Rattle.unicode.proofs.ClassesApart.{white-no-word, zero-no-word}
+use Rattle.characters.proofs.ClassesApart.{white-no-word, zero-no-word}
 use Rattle.tight.proofs.Whitespace.{isBlank, none-blank, blankByte, blank-whole, not_byte, range-quiet}
 use Rattle.tight.proofs.Sim.{Conts, last, more, blank, Separator, space, newline, return, Ends, at-end, at-separator, Sim, nil, keep, same, swap, lose, Blankish, ended, starts, blankish, separator-blank, separator-ish, ends-ish, class-sim, blank-sim}
 

@@ -10,13 +10,13 @@ use lib.ListN.{length, take, drop, take-append-drop}
 use lib.Seq.{drop-drop}
 use lib.Dec.{ltb}
 use borrow.Author.Tests.{le-ltb, ltb-false}
-use Rattle.unicode.specs.declared.IllFormed.{IllFormed}
-use Rattle.unicode.specs.declared.IllFormed.TheVariants.{At, Nowhere}
-use Rattle.unicode.specs.Classes.{isWhitespace}
-use Rattle.unicode.specs.Runs.{run}
-use Rattle.unicode.specs.Utf8.{firstIllFormed, wellFormed}
-use Rattle.unicode.proofs.WellFormedSteps.{ill-formed-nowhere}
-use Rattle.unicode.proofs.WellFormedCuts.{end-formed, run-cut}
+use Rattle.characters.specs.declared.IllFormed.{IllFormed}
+use Rattle.characters.specs.declared.IllFormed.TheVariants.{At, Nowhere}
+use Rattle.characters.specs.Classes.{isWhitespace}
+use Rattle.characters.specs.Runs.{run}
+use Rattle.characters.specs.Utf8.{firstIllFormed, wellFormed}
+use Rattle.characters.proofs.WellFormedSteps.{ill-formed-nowhere}
+use Rattle.characters.proofs.WellFormedCuts.{end-formed, run-cut}
 use Rattle.recognisers.specs.declared.Recognised.TheVariants as R
 use Rattle.recognisers.specs.declared.TokenKind.{TokenKind}
 use Rattle.recognisers.proofs.PieceBoundaries.{Bounded}
@@ -38,7 +38,7 @@ use Rattle.tight.proofs.ReadingItems.{past, readFrom, reading-is, read_none, aft
 use Rattle.tight.proofs.GapRuns.{each-rest, gap-of}
 use Rattle.tight.proofs.TightReading.{found, mark, items-gap, joint, render, render-one, separates}
 use Rattle.tight.proofs.TightByItems.{tight-is}
-use Rattle.unicode.proofs.ReplacedEnds.{replaced, ascii-before}
+use Rattle.characters.proofs.ReplacedEnds.{replaced, ascii-before}
 
 -- ---- it is well formed
 

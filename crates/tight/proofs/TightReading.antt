@@ -7,9 +7,9 @@ use mathlib.Core.List.{List, [], ◌∷◌, ◌++◌}
 use mathlib.Core.Bool.{Bool, true, false, cond, ◌||◌, false≢true}
 use lib.ListN.{take, drop}
 use lib.Seq.{drop-drop}
-use Rattle.unicode.specs.Classes.{isWhitespace}
-use Rattle.unicode.specs.Character.{continuations, continued}
-use Rattle.unicode.specs.Runs.{run}
+use Rattle.characters.specs.Classes.{isWhitespace}
+use Rattle.characters.specs.Character.{continuations, continued}
+use Rattle.characters.specs.Runs.{run}
 use Rattle.recognisers.specs.declared.Key.{Key}
 use Rattle.recognisers.specs.declared.Key.TheVariants.{None, Named, Escaped, ZeroIndexed, OneIndexed}
 use Rattle.recognisers.specs.declared.Piece.{Piece}

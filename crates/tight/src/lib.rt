@@ -1,4 +1,6 @@
 // The tight text of a statement: its tokens' values, with one byte or none for each gap.
+#![tactic(auto)]
+
 mod adding;
 mod gaps;
 mod returning;
@@ -9,7 +11,7 @@ use recognisers::TokenKind;
 pub use tightening::tighten;
 
 // What a gap becomes.
-#[derive(Drop)]
+#[derive(Clone, Copy)]
 pub enum Gap {
     Nothing,
     LineFeed,
@@ -18,14 +20,14 @@ pub enum Gap {
 }
 
 // Where a gap stands: before the first token, or behind one of this kind.
-#[derive(Drop)]
+#[derive(Clone, Copy)]
 pub enum Place {
     First,
     Behind(TokenKind),
 }
 
 // Where the next gap stands, and what the gap just passed became, if there was one.
-#[derive(Drop)]
+#[derive(Clone, Copy)]
 pub struct Spacing {
     pub here: Place,
     pub lead: Gap,

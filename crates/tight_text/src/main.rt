@@ -1,5 +1,7 @@
 // Reads a statement from standard input, makes the default call (Generic, joins 0, named placeholders 0) and prints the tight
 // text and nothing else; or `refused` and the number.
+#![tactic(auto)]
+
 use console::{print_answer, read_text, text_space};
 use tight::tighten;
 

@@ -6,13 +6,13 @@ use Prim.Native.Nat.{ℕ}
 use mathlib.Core.Path.{◌≡◌, refl}
 use mathlib.Core.Bool.{Bool, true, false}
 use mathlib.Core.List.{List, [], ◌∷◌, map}
-use Rattle.unicode.specs.Ranges.{within, inRanges}
-use Rattle.unicode.specs.WhiteSpace.{whiteSpace}
-use Rattle.unicode.specs.Alphabetic.{alphabetic}
-use Rattle.unicode.specs.Numeric.{numeric}
-use Rattle.unicode.specs.Character.{continuations, continued, firstBits, with_bits, codePoint}
-use Rattle.unicode.specs.Classes.{isWhitespace, isAlphabetic, isNumeric, isAlphanumeric, isPlaceholderNameCharacter}
-use Rattle.unicode.specs.Runs.{run}
+use Rattle.characters.specs.Ranges.{within, inRanges}
+use Rattle.characters.specs.WhiteSpace.{whiteSpace}
+use Rattle.characters.specs.Alphabetic.{alphabetic}
+use Rattle.characters.specs.Numeric.{numeric}
+use Rattle.characters.specs.Character.{continuations, continued, firstBits, with_bits, codePoint}
+use Rattle.characters.specs.Classes.{isWhitespace, isAlphabetic, isNumeric, isAlphanumeric, isPlaceholderNameCharacter}
+use Rattle.characters.specs.Runs.{run}
 use Rattle.recognisers.specs.declared.Dialect.{Dialect}
 use Rattle.recognisers.specs.declared.Dialect.TheVariants.{Generic, PostgreSql, SQLServer}
 use Rattle.recognisers.specs.declared.Key.TheVariants.{None, Named}

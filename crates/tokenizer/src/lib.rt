@@ -1,4 +1,6 @@
 // src/tokenizer.rs: the tokens of a statement, one step at a time and as a table of records.
+#![tactic(auto)]
+
 use calls::Refusal;
 use recognisers::{Key, TokenKind};
 use reserved::TopLevel;
@@ -19,7 +21,7 @@ pub use tokenizing::tokenize;
 
 // What is asked of earlier tokens: may a type specifier stand here, is the last non-whitespace token's value `.`, is the last
 // Reserved token's value BETWEEN, and the last top-level token's alias.
-#[derive(Drop)]
+#[derive(Clone, Copy)]
 pub struct Memory {
     pub type_specifier: bool,
     pub after_dot: bool,
@@ -29,7 +31,7 @@ pub struct Memory {
 
 // A token of a statement: start, length and alias length in bytes, a key whose places count from the statement's start, and how many
 // of its quotes are escaped. No two lengths are neighbours: two that are written one by one and then read as a pair are waited for.
-#[derive(Drop)]
+#[derive(Clone, Copy)]
 pub struct Token {
     pub len: usize,
     pub kind: TokenKind,
@@ -40,34 +42,34 @@ pub struct Token {
 }
 
 // Where reading stands, and what it remembers.
-#[derive(Drop)]
+#[derive(Clone, Copy)]
 pub struct Cursor {
     pub at: usize,
     pub memory: Memory,
 }
 
-#[derive(Drop)]
+#[derive(Clone, Copy)]
 pub enum Step {
     Token(Token, Cursor),
     Done,
 }
 
 // What `tokenize` answers: how many records it wrote, and how many quotes are escaped in the tokens.
-#[derive(Drop)]
+#[derive(Clone, Copy)]
 pub enum TableAnswer {
     Written { tokens: u64, escaped: u64 },
     Refused(Refusal),
 }
 
 // How many tokens were written, and how many quotes are escaped in them.
-#[derive(Drop)]
+#[derive(Clone, Copy)]
 pub struct Totals {
     pub tokens: usize,
     pub escaped: usize,
 }
 
 // The last three words of a record.
-#[derive(Drop)]
+#[derive(Clone, Copy)]
 pub struct KeyWords {
     pub kind: u64,
     pub a: u64,

@@ -2,8 +2,8 @@
 -- Assumes nothing.
 use Prim.Native.Nat.{ℕ}
 use mathlib.Core.Path.{◌≡◌}
-use Rattle.unicode.specs.declared.IllFormed.{IllFormed}
-use Rattle.unicode.specs.declared.IllFormed.TheVariants.{At, Nowhere}
+use Rattle.characters.specs.declared.IllFormed.{IllFormed}
+use Rattle.characters.specs.declared.IllFormed.TheVariants.{At, Nowhere}
 use Rattle.unicode_exports.specs.Place.{placeOr}
 
 module _ (found answer : IllFormed) (n : ℕ) (e : answer ≡ found) where

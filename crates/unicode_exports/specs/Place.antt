@@ -1,7 +1,7 @@
 -- A place as one number.
 use Rattle.std.specs.Prelude.{ℕ}
-use Rattle.unicode.specs.declared.IllFormed.{IllFormed}
-use Rattle.unicode.specs.declared.IllFormed.TheVariants.{At, Nowhere}
+use Rattle.characters.specs.declared.IllFormed.{IllFormed}
+use Rattle.characters.specs.declared.IllFormed.TheVariants.{At, Nowhere}
 
 -- the first ill-formed place, and the length of the text where there is none
 abbrev pub placeOr : IllFormed → ℕ → ℕ

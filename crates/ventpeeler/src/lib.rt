@@ -1,4 +1,6 @@
 // The boundary for C.
+#![tactic(auto)]
+
 ghost use Rattle.std.specs.Prelude.{◌≡◌, min, ◌+◌, ◌*◌, ◌^◌, ◌<◌, length};
 ghost use Rattle.tokenizer.specs.declared.TableAnswer.TheVariants.{Written, Refused};
 ghost use Rattle.tokenizer.specs.Answers.{tokenizeAnswer, tokenizeRecords};

@@ -1,6 +1,6 @@
 -- For inner contracts alone: the word at the start of a text, as far as it is ASCII.
 use Rattle.std.specs.Prelude.{ℕ, List}
-use Rattle.unicode.specs.Ascii.{isAsciiWord}
+use Rattle.characters.specs.Ascii.{isAsciiWord}
 use Rattle.recognisers.specs.Taking.{count}
 
 -- how long it is

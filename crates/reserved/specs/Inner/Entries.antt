@@ -1,7 +1,7 @@
 -- For inner contracts alone: all phrases in the order in which they are tried, each with the letter of its group, and as the
 -- bytes of a table.
 use Rattle.std.specs.Prelude.{ℕ, zero, suc, Bool, true, false, cond, ◌||◌, List, [], ◌∷◌, ◌++◌, leb, eqb, length, take, get_or}
-use Rattle.unicode.specs.Ascii.{isAsciiWord}
+use Rattle.characters.specs.Ascii.{isAsciiWord}
 use Rattle.recognisers.specs.declared.Taken.{Taken}
 use Rattle.recognisers.specs.declared.Taken.TheVariants.{Bytes, Fails}
 use Rattle.recognisers.specs.Text.{byte, bytes}

@@ -1,8 +1,8 @@
 -- For inner contracts alone: what is kept of gaps that were measured. The first three numbers say where they stand in a rest, the
 -- others how long they are.
 use Rattle.std.specs.Prelude.{ℕ, ◌+◌, ◌<◌, ◌≡◌, List, length, drop, get_or}
-use Rattle.unicode.specs.Runs.{run, inClass}
-use Rattle.unicode.specs.declared.Class.TheVariants.{Whitespace}
+use Rattle.characters.specs.Runs.{run, inClass}
+use Rattle.characters.specs.declared.Class.TheVariants.{Whitespace}
 
 pub record Measured (gaps s : List ℕ) : Type 0 where
   pub six : length gaps ≡ 6

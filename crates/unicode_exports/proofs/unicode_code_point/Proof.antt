@@ -1,7 +1,7 @@
 use mathlib.Core.Path.{ap}
 use borrow.Author.Rules.{rules}
-use Rattle.unicode.specs.declared.Character.{Character}
-use Rattle.unicode.specs.Character.{character}
+use Rattle.characters.specs.declared.Character.{Character}
+use Rattle.characters.specs.Character.{character}
 use Rattle.unicode_exports.proofs.unicode_code_point.Statement.{statement}
 use Rattle.unicode_exports.proofs.unicode_code_point.Tie as tie
 

@@ -1,6 +1,6 @@
 use borrow.Author.Rules.{rules}
 use Rattle.recognisers.specs.Placeholder.{placeholderName}
-use Rattle.unicode.specs.Runs.{inClass}
+use Rattle.characters.specs.Runs.{inClass}
 use Rattle.recognisers.proofs.placeholders.placeholder_name.Statement.{statement}
 use Rattle.recognisers.proofs.placeholders.placeholder_name.Tie as tie
 

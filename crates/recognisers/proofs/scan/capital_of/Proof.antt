@@ -1,6 +1,6 @@
 use borrow.Author.Tests.{le-leb, lt-leb}
 use borrow.Author.Rules.{rules}
-use Rattle.unicode.specs.Ranges.{within}
+use Rattle.characters.specs.Ranges.{within}
 use Rattle.recognisers.specs.Taking.{capital}
 use Rattle.recognisers.proofs.scan.capital_of.Statement.{statement}
 use Rattle.recognisers.proofs.scan.capital_of.Tie as tie

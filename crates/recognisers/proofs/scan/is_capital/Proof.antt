@@ -1,5 +1,5 @@
 use borrow.Author.Tests.{le-leb, lt-leb}
-use Rattle.unicode.specs.Ranges.{within}
+use Rattle.characters.specs.Ranges.{within}
 use Rattle.recognisers.proofs.scan.is_capital.Statement.{statement}
 use Rattle.recognisers.proofs.scan.is_capital.Tie as tie
 

@@ -1,5 +1,5 @@
 use borrow.Author.Tests.{le-leb, lt-leb}
-use Rattle.unicode.specs.Ranges.{within}
+use Rattle.characters.specs.Ranges.{within}
 use Rattle.recognisers.proofs.scan.is_digit.Statement.{statement}
 use Rattle.recognisers.proofs.scan.is_digit.Tie as tie
 

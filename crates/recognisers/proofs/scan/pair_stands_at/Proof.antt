@@ -1,5 +1,5 @@
 use borrow.Author.Rules.{rules}
-use Rattle.unicode.proofs.ShortCircuit.{and_first, and_second}
+use Rattle.characters.proofs.ShortCircuit.{and_first, and_second}
 use Rattle.recognisers.proofs.scan.pair_stands_at.Statement.{statement}
 use Rattle.recognisers.proofs.scan.pair_stands_at.Tie as tie
 

@@ -1,7 +1,7 @@
 use Prim.Native.Nat.{◌-◌}
 use lib.ListN.{length}
 use borrow.Author.Rules.{rules}
-use Rattle.unicode.specs.Ascii.{isAsciiWord}
+use Rattle.characters.specs.Ascii.{isAsciiWord}
 use Rattle.recognisers.specs.Inner.WordLength.{wordLength}
 use Rattle.recognisers.proofs.ByteLoops.{CountAt, count-start, count-more, count-stop, count-end}
 use Rattle.recognisers.proofs.scan.word_length.Statement.{statement}

@@ -1,5 +1,5 @@
 use borrow.Author.Rules.{rules}
-use Rattle.unicode.proofs.ShortCircuit.{or-first, or-second}
+use Rattle.characters.proofs.ShortCircuit.{or-first, or-second}
 use Rattle.recognisers.proofs.words.is_line_break.Statement.{statement}
 use Rattle.recognisers.proofs.words.is_line_break.Tie as tie
 

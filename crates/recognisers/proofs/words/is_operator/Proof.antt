@@ -1,7 +1,7 @@
 use borrow.Author.Rules.{rules}
 use Rattle.recognisers.specs.Text.{bytes}
 use Rattle.recognisers.specs.Words.{isOperator}
-use Rattle.unicode.proofs.ShortCircuit.{or-first, or-second}
+use Rattle.characters.proofs.ShortCircuit.{or-first, or-second}
 use Rattle.recognisers.proofs.Halves.{contains-both}
 use Rattle.recognisers.proofs.words.is_operator.Statement.{statement}
 use Rattle.recognisers.proofs.words.is_operator.Tie as tie

@@ -1,6 +1,6 @@
 use borrow.Author.Rules.{rules}
 use Rattle.recognisers.specs.Words.{getWhitespaceToken}
-use Rattle.unicode.specs.Runs.{inClass}
+use Rattle.characters.specs.Runs.{inClass}
 use Rattle.recognisers.proofs.words.try_whitespace.Statement.{statement}
 use Rattle.recognisers.proofs.words.try_whitespace.Tie as tie
 

@@ -1,5 +1,5 @@
 use borrow.Author.Rules.{rules}
-use Rattle.unicode.specs.Runs.{inClass}
+use Rattle.characters.specs.Runs.{inClass}
 use Rattle.recognisers.proofs.WordRuns.{word_at, word-whole, word-stops}
 use Rattle.recognisers.proofs.words.word_end.Statement.{statement}
 use Rattle.recognisers.proofs.words.word_end.Tie as tie

@@ -2,8 +2,8 @@ use Prim.Native.Nat.{ℕ}
 use mathlib.Core.List.{List, [], ◌∷◌}
 use mathlib.Core.Path.{refl}
 use borrow.Author.Rules.{rules}
-use Rattle.unicode.specs.Ranges.{within}
-use Rattle.unicode.specs.Ascii.{isLetter, isAsciiWord}
+use Rattle.characters.specs.Ranges.{within}
+use Rattle.characters.specs.Ascii.{isLetter, isAsciiWord}
 use Rattle.recognisers.specs.Taking.{count, contains}
 use Rattle.reserved.specs.Inner.Entries.{encoded, entriesLong}
 use Rattle.reserved.proofs.LetterEntries.{entries-w, is-w}

@@ -1,5 +1,5 @@
 use borrow.Author.Rules.{rules}
-use Rattle.unicode.proofs.ShortCircuit.{or-first, or-second}
+use Rattle.characters.proofs.ShortCircuit.{or-first, or-second}
 use Rattle.reserved.proofs.words.has_short_alias.Statement.{statement}
 use Rattle.reserved.proofs.words.has_short_alias.Tie as tie
 

@@ -1,5 +1,5 @@
 use borrow.Author.Rules.{rules}
-use Rattle.unicode.proofs.ShortCircuit.{and_first, and_second}
+use Rattle.characters.proofs.ShortCircuit.{and_first, and_second}
 use Rattle.reserved.proofs.words.is_and.Statement.{statement}
 use Rattle.reserved.proofs.words.is_and.Tie as tie
 

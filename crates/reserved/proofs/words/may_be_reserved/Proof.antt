@@ -1,5 +1,5 @@
 use borrow.Author.Rules.{rules}
-use Rattle.unicode.proofs.ShortCircuit.{or-first, or-second}
+use Rattle.characters.proofs.ShortCircuit.{or-first, or-second}
 use Rattle.reserved.specs.Reserved.{mayBeReserved}
 use Rattle.reserved.proofs.words.may_be_reserved.Statement.{statement}
 use Rattle.reserved.proofs.words.may_be_reserved.Tie as tie

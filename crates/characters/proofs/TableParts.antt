@@ -1,0 +1,150 @@
+-- A lookup in the part of an ordered table that a code point falls into is a lookup in the whole.
+-- Assumes nothing.
+use Prim.Native.Nat.{ℕ, zero, suc, ◌≤◌, ◌<◌}
+use native.Mathlib.Nat.{le_refl, le_trans, lt_of_lt_of_le, lt_of_le_of_lt}
+use native.Mathlib.Omega.{arith}
+use mathlib.Core.Path.{◌≡◌, refl, sym, ap, ◌∙◌}
+use mathlib.Core.List.{List, [], ◌∷◌}
+use mathlib.Core.Bool.{Bool, true, false, ◌&&◌, ◌||◌, and-eq-true_iff}
+use lib.ListN.{take, drop}
+use lib.Dec.{leb, ltb, leb-suc-suc}
+use borrow.Author.Tests.{leb-true, ltb-true, le-leb, lt-leb}
+use Rattle.characters.specs.Ranges.{within, inRanges, ordered}
+use Rattle.characters.specs.Inner.Ends.{endsOf, inEnds, ascending}
+
+abbrev pub Ranges : Type 0
+Ranges = List (ℕ × ℕ)
+
+-- what `ordered` says of a first range
+pub record First (least : ℕ) (range : ℕ × ℕ) (ranges : Ranges) : Type 0 where
+  pub starts : least ≤ range.0
+  pub some : range.0 ≤ range.1
+  pub rest : ordered (suc range.1) ranges ≡ true
+
+pub first : (least : ℕ) (range : ℕ × ℕ) (ranges : Ranges) → ordered least (range ∷ ranges) ≡ true → First least range ranges
+unfolding ordered
+first least range ranges e =
+    let a = (and-eq-true_iff (leb least range.0) (leb range.0 range.1 && ordered (suc range.1) ranges)).0 e in
+    let b = (and-eq-true_iff (leb range.0 range.1) (ordered (suc range.1) ranges)).0 a.1 in
+    record { starts = leb-true least range.0 a.0; some = leb-true range.0 range.1 b.0; rest = b.1 }
+
+-- ---- ends
+
+in-ends : (ranges : Ranges) (c : ℕ) → inEnds (endsOf ranges) c ≡ inRanges ranges c
+unfolding inEnds endsOf inRanges within
+in-ends [] c = refl
+in-ends (range ∷ ranges) c = rw (leb-suc-suc c range.1, in-ends ranges c)
+
+ends-ascend : (least : ℕ) (ranges : Ranges) → ordered least ranges ≡ true → ascending (least ∷ endsOf ranges) ≡ true
+unfolding ascending endsOf
+ends-ascend least [] e = refl
+ends-ascend least (range ∷ ranges) e =
+    let f = first least range ranges e in
+    rw (le-leb least range.0 f.starts, le-leb range.0 (suc range.1) (le_trans f.some (omega arith)))
+    (ends-ascend (suc range.1) ranges f.rest)
+
+tail-ascends : (a : ℕ) (ends : List ℕ) → ascending (a ∷ ends) ≡ true → ascending ends ≡ true
+unfolding ascending
+tail-ascends a [] e = refl
+tail-ascends a (b ∷ ends) e = ((and-eq-true_iff (leb a b) (ascending (b ∷ ends))).0 e).1
+
+-- ---- a part
+
+-- one past the last code point of the first m ranges
+abbrev pub before : ℕ → Ranges → ℕ → ℕ
+before least ranges zero = least
+before least [] (suc m) = least
+before least (range ∷ ranges) (suc m) = before (suc range.1) ranges m
+
+-- no range starts at or below high after the first n
+abbrev pub closes : Ranges → ℕ → Bool
+closes [] high = true
+closes (range ∷ ranges) high = ltb high range.0
+
+pub before-grows : (least : ℕ) (ranges : Ranges) (m : ℕ) → ordered least ranges ≡ true → least ≤ before least ranges m
+before-grows least ranges zero e = le_refl least
+before-grows least [] (suc m) e = le_refl least
+before-grows least (range ∷ ranges) (suc m) e =
+    let f = first least range ranges e in
+    le_trans (le_trans f.starts (le_trans f.some (omega arith))) (before-grows (suc range.1) ranges m f.rest)
+
+below_all : (least : ℕ) (ranges : Ranges) (c : ℕ) → ordered least ranges ≡ true → c < least → inRanges ranges c ≡ false
+unfolding inRanges within
+below_all least [] c e h = refl
+below_all least (range ∷ ranges) c e h =
+    let f = first least range ranges e in
+    rw (lt-leb range.0 c (lt_of_lt_of_le h f.starts))
+    (below_all (suc range.1) ranges c f.rest (lt_of_lt_of_le h (le_trans f.starts (le_trans f.some (omega arith)))))
+
+-- the first m ranges end before c
+passed : (least : ℕ) (ranges : Ranges) (m c : ℕ) → ordered least ranges ≡ true → before least ranges m ≤ c → inRanges (drop m ranges) c ≡ inRanges ranges c
+unfolding inRanges within
+passed least ranges zero c e h = refl
+passed least [] (suc m) c e h = refl
+passed least (range ∷ ranges) (suc m) c e h =
+    let f = first least range ranges e in
+    let past : range.1 < c = le_trans (before-grows (suc range.1) ranges m f.rest) h in
+    passed (suc range.1) ranges m c f.rest h ∙ sym (rw (lt-leb c range.1 past) (and-false (leb range.0 c) (inRanges ranges c)))
+  where
+    and-false : (a b : Bool) → ((a && false) || b) ≡ b
+    and-false true b = refl
+    and-false false b = refl
+
+pub from_first : (least : ℕ) (range : ℕ × ℕ) (ranges : Ranges) → ordered least (range ∷ ranges) ≡ true → ordered range.0 (range ∷ ranges) ≡ true
+unfolding ordered
+from_first least range ranges e =
+    rw (le-leb range.0 range.0 (le_refl range.0))
+    ((and-eq-true_iff (leb least range.0) (leb range.0 range.1 && ordered (suc range.1) ranges)).0 e).1
+
+-- those after the first n start after c
+ahead : (least : ℕ) (ranges : Ranges) (n c : ℕ) → ordered least ranges ≡ true → closes (drop n ranges) c ≡ true → inRanges (take n ranges) c ≡ inRanges ranges c
+unfolding inRanges
+ahead least [] zero c e h = refl
+ahead least (range ∷ ranges) zero c e h =
+    sym (below_all range.0 (range ∷ ranges) c (from_first least range ranges e) (ltb-true c range.0 h))
+ahead least [] (suc n) c e h = refl
+ahead least (range ∷ ranges) (suc n) c e h =
+    ap (λ (b : Bool). within range.0 range.1 c || b) (ahead (suc range.1) ranges n c (first least range ranges e).rest h)
+
+drop-ordered : (least : ℕ) (ranges : Ranges) (m : ℕ) → ordered least ranges ≡ true → ordered (before least ranges m) (drop m ranges) ≡ true
+unfolding ordered
+drop-ordered least ranges zero e = e
+drop-ordered least [] (suc m) e = refl
+drop-ordered least (range ∷ ranges) (suc m) e = drop-ordered (suc range.1) ranges m (first least range ranges e).rest
+
+take-ordered : (least : ℕ) (ranges : Ranges) (n : ℕ) → ordered least ranges ≡ true → ordered least (take n ranges) ≡ true
+unfolding ordered
+take-ordered least ranges zero e = refl
+take-ordered least [] (suc n) e = refl
+take-ordered least (range ∷ ranges) (suc n) e =
+    let f = first least range ranges e in
+    rw (le-leb least range.0 f.starts, le-leb range.0 range.1 f.some, take-ordered (suc range.1) ranges n f.rest)
+
+pub closes-below : (ranges : Ranges) (c high : ℕ) → c ≤ high → closes ranges high ≡ true → closes ranges c ≡ true
+closes-below [] c high h e = refl
+closes-below (range ∷ ranges) c high h e = le-leb (suc c) range.0 (lt_of_le_of_lt h (ltb-true high range.0 e))
+
+-- The part of n ranges from the m-th on serves the code points from low to high. r is what `in_ranges` answers of the
+-- part's ends.
+pub part-is : (ranges : Ranges) → ordered 0 ranges ≡ true → (m n low high : ℕ)
+    → (leb (before 0 ranges m) low && closes (drop n (drop m ranges)) high) ≡ true
+    → (r : Bool) (c : ℕ) → low ≤ c → c ≤ high
+    → (ascending (endsOf (take n (drop m ranges))) ≡ true → r ≡ inEnds (endsOf (take n (drop m ranges))) c)
+    → r ≡ inRanges ranges c
+part-is ranges o m n low high spans r c l h f =
+    let s = (and-eq-true_iff (leb (before 0 ranges m) low) (closes (drop n (drop m ranges)) high)).0 spans in
+    let o₂ = drop-ordered 0 ranges m o in
+    let least = before 0 ranges m in
+    f (tail-ascends least (endsOf (take n (drop m ranges))) (ends-ascend least (take n (drop m ranges)) (take-ordered least (drop m ranges) n o₂)))
+    ∙ in-ends (take n (drop m ranges)) c
+    ∙ ahead least (drop m ranges) n c o₂ (closes-below (drop n (drop m ranges)) c high h s.1)
+    ∙ passed 0 ranges m c o (le_trans (leb-true (before 0 ranges m) low s.0) l)
+
+-- the last part serves all code points from low on
+pub last-part-is : (ranges : Ranges) → ordered 0 ranges ≡ true → (m n low : ℕ)
+    → leb (before 0 ranges m) low ≡ true
+    → drop n (drop m ranges) ≡ []
+    → (r : Bool) (c : ℕ) → low ≤ c
+    → (ascending (endsOf (take n (drop m ranges))) ≡ true → r ≡ inEnds (endsOf (take n (drop m ranges))) c)
+    → r ≡ inRanges ranges c
+last-part-is ranges o m n low starts all r c l f = part-is ranges o m n low c (rw (starts, all)) r c l (le_refl c) f

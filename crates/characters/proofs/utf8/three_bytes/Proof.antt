@@ -1,0 +1,23 @@
+use borrow.Author.Rules.{rules}
+use Rattle.characters.proofs.SequenceRows.{second-no, third-yes, third-no}
+use Rattle.characters.proofs.utf8.three_bytes.Statement.{statement}
+use Rattle.characters.proofs.utf8.three_bytes.Tie as tie
+
+byte-within-requires : tie.Need-byte-within-requires
+byte-within-requires c κs = search rules
+
+byte-within-requires-2 : tie.Need-byte-within-requires-2
+byte-within-requires-2 c κs = search rules
+
+returns : tie.Need-returns
+returns c = search third-yes
+
+returns-2 : tie.Need-returns-2
+returns-2 c = search third-no
+
+returns-3 : tie.Need-returns-3
+returns-3 c = search second-no
+
+pub three-bytes-spec : {M : Type 1} → statement M
+three-bytes-spec =
+    tie.close (tie.spec byte-within-requires byte-within-requires-2 returns returns-2 returns-3)

@@ -1,0 +1,18 @@
+-- Runs of characters of one class.
+use Rattle.std.specs.Prelude.{ℕ, zero, suc, Bool, cond, List, [], ◌∷◌}
+use Rattle.characters.specs.declared.Class.{Class}
+use Rattle.characters.specs.declared.Class.TheVariants.{Whitespace, Word, PlaceholderName}
+use Rattle.characters.specs.Classes.{isWhitespace, isWordCharacter, isPlaceholderNameCharacter}
+use Rattle.characters.specs.Character.{continuations, continued, codePoint}
+
+unfoldable pub inClass : Class → ℕ → Bool
+inClass Whitespace = isWhitespace
+inClass Word = isWordCharacter
+inClass PlaceholderName = isPlaceholderNameCharacter
+
+-- how many bytes the characters of the class take at the start, where the first `passed` bytes belong to a character that
+-- has been seen
+unfoldable pub run : (ℕ → Bool) → ℕ → List ℕ → ℕ
+run class passed [] = 0
+run class (suc passed) (b ∷ s) = suc (run class passed s)
+run class zero (b ∷ s) = cond (class (codePoint (b ∷ s))) (suc (run class (continued (continuations b) s) s)) 0

@@ -1,0 +1,18 @@
+// Connector punctuation: the category Pc: those of the crate unicode_categories 0.1.1. Made by tools/tables.rs.
+// Each range is its first code point and the one past its last. An array is built anew wherever it is
+// evaluated, so the ranges stand in arrays of at most 32, and a lookup reaches one of them.
+ghost use Rattle.std.specs.Prelude.{◌≡◌};
+ghost use Rattle.characters.specs.Ranges.{inRanges};
+ghost use Rattle.characters.specs.Connector.{connector};
+
+use crate::ranges::in_ranges;
+
+const FROM_005F: [u32; 12] = [
+    0x005F, 0x0060, 0x203F, 0x2041, 0x2054, 0x2055, 0xFE33, 0xFE35, 0xFE4D, 0xFE50, 0xFF3F, 0xFF40,
+];
+
+pub fn contains(c: u32) -> bool
+    ensures { result ≡ inRanges connector c }
+{
+    in_ranges(&FROM_005F, c)
+}
