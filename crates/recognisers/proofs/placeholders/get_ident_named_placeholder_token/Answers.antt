@@ -1,0 +1,8 @@
+use Rattle.recognisers.proofs.PlaceholderLaws.{ident-token, ident-nothing}
+use Rattle.recognisers.proofs.placeholders.get_ident_named_placeholder_token.Goals as goal
+
+pub returns-in-Bytes : goal.returns-in-Bytes
+returns-in-Bytes c = search ident-token
+
+pub returns-in-Fails : goal.returns-in-Fails
+returns-in-Fails c = search ident-nothing

@@ -1,0 +1,5 @@
+use Rattle.recognisers.proofs.FirstBytes.{no-whitespace}
+use Rattle.recognisers.proofs.words.get_whitespace_token.Goals as goal
+
+pub returns : goal.returns
+returns c = search no-whitespace
