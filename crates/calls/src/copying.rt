@@ -6,7 +6,8 @@ pub fn put_bytes(bytes: &[u8], output: &mut [u8], at: usize)
     requires { at + length bytes.now ≤ length output.old }
     ensures { output.new ≡ sets output.old at bytes.now }
 {
-    bytes::copy(bytes, &mut output[at..]);
+    let end = at + bytes.len();
+    output[at..end].copy_from_slice(bytes);
 }
 
 // So many bytes of a source, from a place on.

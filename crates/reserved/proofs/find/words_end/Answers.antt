@@ -1,0 +1,16 @@
+use Rattle.std.proofs.Common.{rules}
+use Rattle.reserved.proofs.PhraseWalk.{walk-fits, walk_more}
+use Rattle.reserved.proofs.MeasuredGaps.{same_count}
+use Rattle.reserved.proofs.find.words_end.Goals as goal
+
+pub returns-in_default-clause-value : goal.returns-in_default-clause-value
+returns-in_default-clause-value c = search (rules, same_count, walk-fits)
+
+pub overflow_add-at : goal.overflow_add-at
+overflow_add-at c = search walk-fits
+
+pub loop-i-preserved : goal.loop-i-preserved
+loop-i-preserved c = record { walked = search walk_more; measured = search rules; low = search rules }
+
+pub returns-clause-value : goal.returns-clause-value
+returns-clause-value c = search (rules, same_count, walk-fits)

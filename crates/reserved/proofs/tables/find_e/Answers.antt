@@ -1,0 +1,64 @@
+use mathlib.Core.Path.{refl}
+use Rattle.characters.specs.Ranges.{within}
+use Rattle.characters.specs.Ascii.{isLetter, isAsciiWord}
+use Rattle.recognisers.specs.Taking.{count}
+use Rattle.reserved.specs.Inner.Entries.{encoded, entriesLong}
+use Rattle.reserved.proofs.LetterEntries.{entries-e, is-e}
+use Rattle.reserved.proofs.OtherLengths.{long-is}
+use Rattle.reserved.proofs.tables.find_e.Goals as goal
+
+pub returns-in-3-clause-value : goal.returns-in-3-clause-value
+unfolding encoded entriesLong count isAsciiWord isLetter within entries-e
+returns-in-3-clause-value c = long-is 69 entries-e is-e _ _ c.requires 4 c.match.keys2 _ _ _ _ c.find_in-in-3-clause-value.ensures.0 c.find_in-in-3-clause-value.ensures.1 refl
+
+pub returns-in-3-clause-found_after : goal.returns-in-3-clause-found_after
+unfolding encoded entriesLong count isAsciiWord isLetter within entries-e
+returns-in-3-clause-found_after c = long-is 69 entries-e is-e _ _ c.requires 3 c.match.keys1 _ _ _ _ c.find_in.ensures.0 c.find_in.ensures.1 refl
+
+pub returns-in-4-clause-value : goal.returns-in-4-clause-value
+unfolding encoded entriesLong count isAsciiWord isLetter within entries-e
+returns-in-4-clause-value c = long-is 69 entries-e is-e _ _ c.requires 3 c.match.keys1 _ _ _ _ c.find_in.ensures.0 c.find_in.ensures.1 refl
+
+pub returns-in-4-clause-found_after : goal.returns-in-4-clause-found_after
+unfolding encoded entriesLong count isAsciiWord isLetter within entries-e
+returns-in-4-clause-found_after c = long-is 69 entries-e is-e _ _ c.requires 3 c.match.keys1 _ _ _ _ c.find_in.ensures.0 c.find_in.ensures.1 refl
+
+pub returns-in-6-clause-value : goal.returns-in-6-clause-value
+unfolding encoded entriesLong count isAsciiWord isLetter within entries-e
+returns-in-6-clause-value c = long-is 69 entries-e is-e _ _ c.requires 3 c.match.keys1 _ _ _ _ c.find_in.ensures.0 c.find_in.ensures.1 refl
+
+pub returns-in-6-clause-found_after : goal.returns-in-6-clause-found_after
+unfolding encoded entriesLong count isAsciiWord isLetter within entries-e
+returns-in-6-clause-found_after c = long-is 69 entries-e is-e _ _ c.requires 3 c.match.keys1 _ _ _ _ c.find_in.ensures.0 c.find_in.ensures.1 refl
+
+pub returns-in-7-clause-value : goal.returns-in-7-clause-value
+unfolding encoded entriesLong count isAsciiWord isLetter within entries-e
+returns-in-7-clause-value c = long-is 69 entries-e is-e _ _ c.requires 3 c.match.keys1 _ _ _ _ c.find_in.ensures.0 c.find_in.ensures.1 refl
+
+pub returns-in-7-clause-found_after : goal.returns-in-7-clause-found_after
+unfolding encoded entriesLong count isAsciiWord isLetter within entries-e
+returns-in-7-clause-found_after c = long-is 69 entries-e is-e _ _ c.requires 4 c.match.keys2 _ _ _ _ c.find_in-in-7-clause-found_after.ensures.0 c.find_in-in-7-clause-found_after.ensures.1 refl
+
+pub returns-in-8-clause-value : goal.returns-in-8-clause-value
+unfolding encoded entriesLong count isAsciiWord isLetter within entries-e
+returns-in-8-clause-value c = long-is 69 entries-e is-e _ _ c.requires 4 c.match.keys2 _ _ _ _ c.find_in-in-8-clause-value.ensures.0 c.find_in-in-8-clause-value.ensures.1 refl
+
+pub returns-in-8-clause-found_after : goal.returns-in-8-clause-found_after
+unfolding encoded entriesLong count isAsciiWord isLetter within entries-e
+returns-in-8-clause-found_after c = long-is 69 entries-e is-e _ _ c.requires 4 c.match.keys2 _ _ _ _ c.find_in-in-8-clause-found_after.ensures.0 c.find_in-in-8-clause-found_after.ensures.1 refl
+
+pub returns-in-11-clause-value : goal.returns-in-11-clause-value
+unfolding encoded entriesLong count isAsciiWord isLetter within entries-e
+returns-in-11-clause-value c = long-is 69 entries-e is-e _ _ c.requires 4 c.match.keys2 _ _ _ _ c.find_in-in-11-clause-value.ensures.0 c.find_in-in-11-clause-value.ensures.1 refl
+
+pub returns-in-11-clause-found_after : goal.returns-in-11-clause-found_after
+unfolding encoded entriesLong count isAsciiWord isLetter within entries-e
+returns-in-11-clause-found_after c = long-is 69 entries-e is-e _ _ c.requires 4 c.match.keys2 _ _ _ _ c.find_in-in-11-clause-found_after.ensures.0 c.find_in-in-11-clause-found_after.ensures.1 refl
+
+pub returns-in_default-clause-value : goal.returns-in_default-clause-value
+unfolding encoded entriesLong count isAsciiWord isLetter within entries-e
+returns-in_default-clause-value c = long-is 69 entries-e is-e _ _ c.requires 4 c.match.keys2 _ _ _ _ c.find_in-in_default-clause-value.ensures.0 c.find_in-in_default-clause-value.ensures.1 refl
+
+pub returns-in_default-clause-found_after : goal.returns-in_default-clause-found_after
+unfolding encoded entriesLong count isAsciiWord isLetter within entries-e
+returns-in_default-clause-found_after c = long-is 69 entries-e is-e _ _ c.requires 4 c.match.keys2 _ _ _ _ c.find_in-in_default-clause-found_after.ensures.0 c.find_in-in_default-clause-found_after.ensures.1 refl

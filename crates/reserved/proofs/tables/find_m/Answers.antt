@@ -1,0 +1,96 @@
+use mathlib.Core.Path.{refl}
+use Rattle.characters.specs.Ranges.{within}
+use Rattle.characters.specs.Ascii.{isLetter, isAsciiWord}
+use Rattle.recognisers.specs.Taking.{count}
+use Rattle.reserved.specs.Inner.Entries.{encoded, entriesLong}
+use Rattle.reserved.proofs.LetterEntries.{entries-m, is_m}
+use Rattle.reserved.proofs.OtherLengths.{long-is}
+use Rattle.reserved.proofs.tables.find_m.Goals as goal
+
+pub returns-in-4-clause-value : goal.returns-in-4-clause-value
+unfolding encoded entriesLong count isAsciiWord isLetter within entries-m
+returns-in-4-clause-value c = long-is 77 entries-m is_m _ _ c.requires 5 c.match.keys2 _ _ _ _ c.find_in-in-4-clause-value.ensures.0 c.find_in-in-4-clause-value.ensures.1 refl
+
+pub returns-in-4-clause-found_after : goal.returns-in-4-clause-found_after
+unfolding encoded entriesLong count isAsciiWord isLetter within entries-m
+returns-in-4-clause-found_after c = long-is 77 entries-m is_m _ _ c.requires 4 c.match.keys1 _ _ _ _ c.find_in.ensures.0 c.find_in.ensures.1 refl
+
+pub returns-in-5-clause-value : goal.returns-in-5-clause-value
+unfolding encoded entriesLong count isAsciiWord isLetter within entries-m
+returns-in-5-clause-value c = long-is 77 entries-m is_m _ _ c.requires 4 c.match.keys1 _ _ _ _ c.find_in.ensures.0 c.find_in.ensures.1 refl
+
+pub returns-in-5-clause-found_after : goal.returns-in-5-clause-found_after
+unfolding encoded entriesLong count isAsciiWord isLetter within entries-m
+returns-in-5-clause-found_after c = long-is 77 entries-m is_m _ _ c.requires 4 c.match.keys1 _ _ _ _ c.find_in.ensures.0 c.find_in.ensures.1 refl
+
+pub returns-in-6-clause-value : goal.returns-in-6-clause-value
+unfolding encoded entriesLong count isAsciiWord isLetter within entries-m
+returns-in-6-clause-value c = long-is 77 entries-m is_m _ _ c.requires 4 c.match.keys1 _ _ _ _ c.find_in.ensures.0 c.find_in.ensures.1 refl
+
+pub returns-in-6-clause-found_after : goal.returns-in-6-clause-found_after
+unfolding encoded entriesLong count isAsciiWord isLetter within entries-m
+returns-in-6-clause-found_after c = long-is 77 entries-m is_m _ _ c.requires 4 c.match.keys1 _ _ _ _ c.find_in.ensures.0 c.find_in.ensures.1 refl
+
+pub returns-in-8-clause-value : goal.returns-in-8-clause-value
+unfolding encoded entriesLong count isAsciiWord isLetter within entries-m
+returns-in-8-clause-value c = long-is 77 entries-m is_m _ _ c.requires 4 c.match.keys1 _ _ _ _ c.find_in.ensures.0 c.find_in.ensures.1 refl
+
+pub returns-in-8-clause-found_after : goal.returns-in-8-clause-found_after
+unfolding encoded entriesLong count isAsciiWord isLetter within entries-m
+returns-in-8-clause-found_after c = long-is 77 entries-m is_m _ _ c.requires 4 c.match.keys1 _ _ _ _ c.find_in.ensures.0 c.find_in.ensures.1 refl
+
+pub returns-in-10-clause-value : goal.returns-in-10-clause-value
+unfolding encoded entriesLong count isAsciiWord isLetter within entries-m
+returns-in-10-clause-value c = long-is 77 entries-m is_m _ _ c.requires 4 c.match.keys1 _ _ _ _ c.find_in.ensures.0 c.find_in.ensures.1 refl
+
+pub returns-in-10-clause-found_after : goal.returns-in-10-clause-found_after
+unfolding encoded entriesLong count isAsciiWord isLetter within entries-m
+returns-in-10-clause-found_after c = long-is 77 entries-m is_m _ _ c.requires 4 c.match.keys1 _ _ _ _ c.find_in.ensures.0 c.find_in.ensures.1 refl
+
+pub returns-in-11-clause-value : goal.returns-in-11-clause-value
+unfolding encoded entriesLong count isAsciiWord isLetter within entries-m
+returns-in-11-clause-value c = long-is 77 entries-m is_m _ _ c.requires 4 c.match.keys1 _ _ _ _ c.find_in.ensures.0 c.find_in.ensures.1 refl
+
+pub returns-in-11-clause-found_after : goal.returns-in-11-clause-found_after
+unfolding encoded entriesLong count isAsciiWord isLetter within entries-m
+returns-in-11-clause-found_after c = long-is 77 entries-m is_m _ _ c.requires 5 c.match.keys2 _ _ _ _ c.find_in-in-11-clause-found_after.ensures.0 c.find_in-in-11-clause-found_after.ensures.1 refl
+
+pub returns-in-13-clause-value : goal.returns-in-13-clause-value
+unfolding encoded entriesLong count isAsciiWord isLetter within entries-m
+returns-in-13-clause-value c = long-is 77 entries-m is_m _ _ c.requires 5 c.match.keys2 _ _ _ _ c.find_in-in-13-clause-value.ensures.0 c.find_in-in-13-clause-value.ensures.1 refl
+
+pub returns-in-13-clause-found_after : goal.returns-in-13-clause-found_after
+unfolding encoded entriesLong count isAsciiWord isLetter within entries-m
+returns-in-13-clause-found_after c = long-is 77 entries-m is_m _ _ c.requires 5 c.match.keys2 _ _ _ _ c.find_in-in-13-clause-found_after.ensures.0 c.find_in-in-13-clause-found_after.ensures.1 refl
+
+pub returns-in-15-clause-value : goal.returns-in-15-clause-value
+unfolding encoded entriesLong count isAsciiWord isLetter within entries-m
+returns-in-15-clause-value c = long-is 77 entries-m is_m _ _ c.requires 5 c.match.keys2 _ _ _ _ c.find_in-in-15-clause-value.ensures.0 c.find_in-in-15-clause-value.ensures.1 refl
+
+pub returns-in-15-clause-found_after : goal.returns-in-15-clause-found_after
+unfolding encoded entriesLong count isAsciiWord isLetter within entries-m
+returns-in-15-clause-found_after c = long-is 77 entries-m is_m _ _ c.requires 5 c.match.keys2 _ _ _ _ c.find_in-in-15-clause-found_after.ensures.0 c.find_in-in-15-clause-found_after.ensures.1 refl
+
+pub returns-in-20-clause-value : goal.returns-in-20-clause-value
+unfolding encoded entriesLong count isAsciiWord isLetter within entries-m
+returns-in-20-clause-value c = long-is 77 entries-m is_m _ _ c.requires 5 c.match.keys2 _ _ _ _ c.find_in-in-20-clause-value.ensures.0 c.find_in-in-20-clause-value.ensures.1 refl
+
+pub returns-in-20-clause-found_after : goal.returns-in-20-clause-found_after
+unfolding encoded entriesLong count isAsciiWord isLetter within entries-m
+returns-in-20-clause-found_after c = long-is 77 entries-m is_m _ _ c.requires 5 c.match.keys2 _ _ _ _ c.find_in-in-20-clause-found_after.ensures.0 c.find_in-in-20-clause-found_after.ensures.1 refl
+
+pub returns-in-24-clause-value : goal.returns-in-24-clause-value
+unfolding encoded entriesLong count isAsciiWord isLetter within entries-m
+returns-in-24-clause-value c = long-is 77 entries-m is_m _ _ c.requires 5 c.match.keys2 _ _ _ _ c.find_in-in-24-clause-value.ensures.0 c.find_in-in-24-clause-value.ensures.1 refl
+
+pub returns-in-24-clause-found_after : goal.returns-in-24-clause-found_after
+unfolding encoded entriesLong count isAsciiWord isLetter within entries-m
+returns-in-24-clause-found_after c = long-is 77 entries-m is_m _ _ c.requires 5 c.match.keys2 _ _ _ _ c.find_in-in-24-clause-found_after.ensures.0 c.find_in-in-24-clause-found_after.ensures.1 refl
+
+pub returns-in_default-clause-value : goal.returns-in_default-clause-value
+unfolding encoded entriesLong count isAsciiWord isLetter within entries-m
+returns-in_default-clause-value c = long-is 77 entries-m is_m _ _ c.requires 5 c.match.keys2 _ _ _ _ c.find_in-in_default-clause-value.ensures.0 c.find_in-in_default-clause-value.ensures.1 refl
+
+pub returns-in_default-clause-found_after : goal.returns-in_default-clause-found_after
+unfolding encoded entriesLong count isAsciiWord isLetter within entries-m
+returns-in_default-clause-found_after c = long-is 77 entries-m is_m _ _ c.requires 5 c.match.keys2 _ _ _ _ c.find_in-in_default-clause-found_after.ensures.0 c.find_in-in_default-clause-found_after.ensures.1 refl
