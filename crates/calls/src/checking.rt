@@ -4,8 +4,8 @@ ghost use Rattle.calls.specs.Settings.{isSetting, dialectOf, settingsOf};
 ghost use Rattle.calls.specs.Checks.{checkedText, checked};
 
 use crate::{Checked, Refusal, Settings};
-use recognisers::Dialect;
 use characters::{IllFormed, first_ill_formed};
+use recognisers::Dialect;
 
 fn is_setting(dialect: u64, joins: u64, named: u64) -> bool
     ensures { result ≡ isSetting dialect joins named }
