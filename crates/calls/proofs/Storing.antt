@@ -22,15 +22,12 @@ append-put before vs table i e h =
     (ap (λ (l : List ℕ). (before ++ vs) ++ l)
     (rw (← e) (drop-append-add before (drop (length before) table) (length vs) ∙ drop-drop (length vs) (length before) table)))
 
--- bytes copied over the start of what lies from a place on
-pub copy-put : (bytes output part : List ℕ) (at : ℕ) → at + length bytes ≤ length output
-    → part ≡ take (length bytes) bytes ++ drop (length bytes) (take (length output - at) (drop at output))
-    → put_mid at (length output - at) output part ≡ sets output at bytes
+-- bytes copied over a part that is as long
+pub copy-put : (bytes output part : List ℕ) (at : ℕ) → at + length bytes ≤ length output → part ≡ bytes
+    → put_mid at (at + length bytes - at) output part ≡ sets output at bytes
 copy-put bytes output part at h e =
-    let whole : take (length output - at) (drop at output) ≡ drop at output = take_all (length output - at) (drop at output) (rw length-drop (le_refl _)) in
-    let none : drop (length output - at) (drop at output) ≡ [] = drop_of_length-le (drop at output) {i = length output - at} (rw length-drop (le_refl _)) in
-    let all : take (length bytes) bytes ≡ bytes = take_all (length bytes) bytes (le_refl _) in
-    rw (e, whole, none, append-nil, all, drop-drop, ← append_assoc) (sym (sets-eq bytes output at h))
+    let room : at + length bytes - at ≡ length bytes = omega arith in
+    rw (e, room, drop-drop, ← append_assoc) (sym (sets-eq bytes output at h))
 
 -- the part of a source that is copied
 module _ (start len : ℕ) where
