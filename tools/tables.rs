@@ -1,4 +1,4 @@
-// Prints the tables of the crate `unicode`: for each class its ranges as specs/ has them, its const
+// Prints the tables of the crate `characters`: for each class its ranges as specs/ has them, its const
 // arrays as src/ has them, and the proof that the arrays hold the ranges.
 //
 //     tables DIR      writes the files below DIR, the folder of the crate
@@ -70,7 +70,7 @@ fn spec(class: &Class, ranges: &[Range]) -> String {
     let mut out = String::new();
     writeln!(out, "-- {}: {}. Made by tools/tables.rs.", class.what, class.from).unwrap();
     writeln!(out, "-- {} ranges, {} code points; each range is its first and its last code point.", ranges.len(), points).unwrap();
-    writeln!(out, "use Prim.Native.Nat.{{ℕ}}\nuse mathlib.Core.List.{{List, [], _∷_}}\n").unwrap();
+    writeln!(out, "use Rattle.std.specs.Prelude.{{ℕ, List, [], ◌∷◌}}\n").unwrap();
     writeln!(out, "unfoldable pub {0} : List (ℕ × ℕ)\n{0} =", class.definition).unwrap();
     for (i, (first, last)) in ranges.iter().enumerate() {
         writeln!(out, "    {}({first:#06X}, {last:#06X})", if i == 0 { "" } else { "∷ " }).unwrap();
@@ -85,10 +85,10 @@ fn source(class: &Class, ranges: &[Range]) -> String {
     writeln!(out, "// {}: {}. Made by tools/tables.rs.", class.what, class.from).unwrap();
     writeln!(out, "// Each range is its first code point and the one past its last. An array is built anew wherever it is").unwrap();
     writeln!(out, "// evaluated, so the ranges stand in arrays of at most {MOST}, and a lookup reaches one of them.").unwrap();
-    writeln!(out, "use crate::ranges::in_ranges;").unwrap();
-    writeln!(out, "ghost use mathlib.Core.Path.{{_≡_}};").unwrap();
-    writeln!(out, "ghost use Rattle·unicode·specs.specs.Ranges.{{inRanges}};").unwrap();
-    writeln!(out, "ghost use Rattle·unicode·specs.specs.{}.{{{}}};", class.file, class.definition).unwrap();
+    writeln!(out, "ghost use Rattle.std.specs.Prelude.{{◌≡◌}};").unwrap();
+    writeln!(out, "ghost use Rattle.characters.specs.Ranges.{{inRanges}};").unwrap();
+    writeln!(out, "ghost use Rattle.characters.specs.{}.{{{}}};", class.file, class.definition).unwrap();
+    writeln!(out, "\nuse crate::ranges::in_ranges;").unwrap();
     for chunk in &chunks {
         write!(out, "\nconst FROM_{:04X}: [u32; {}] = [", chunk[0].0, 2 * chunk.len()).unwrap();
         for (first, last) in *chunk {
@@ -97,7 +97,7 @@ fn source(class: &Class, ranges: &[Range]) -> String {
         writeln!(out, "];").unwrap();
     }
     writeln!(out, "\npub fn contains(c: u32) -> bool").unwrap();
-    writeln!(out, "    ensures {{ λ r. ⌜ r ≡ inRanges {} c ⌝ }}\n{{", class.definition).unwrap();
+    writeln!(out, "    ensures {{ result ≡ inRanges {} c }}\n{{", class.definition).unwrap();
     if chunks.len() == 1 {
         writeln!(out, "    in_ranges(&FROM_{:04X}, c)\n}}", chunks[0][0].0).unwrap();
         return out;
@@ -115,8 +115,8 @@ fn source(class: &Class, ranges: &[Range]) -> String {
     out
 }
 
-// The arms of `contains`, each with the part of the table that it looks in.
-fn proof(class: &Class, ranges: &[Range]) -> String {
+// The goals of `contains`, one for each arm, each with the part of the table that it looks in.
+fn answers(class: &Class, ranges: &[Range]) -> String {
     let Class { file, module, definition, .. } = class;
     let law = format!("{}-ordered", module.replace('_', "-"));
     let chunks: Vec<&[Range]> = ranges.chunks(MOST).collect();
@@ -124,37 +124,31 @@ fn proof(class: &Class, ranges: &[Range]) -> String {
     let mut out = String::new();
     writeln!(out, "-- Each arm looks in the part of the table that serves its code points. Made by tools/tables.rs.").unwrap();
     writeln!(out, "-- Assumes nothing.").unwrap();
-    writeln!(out, "use native.Mathlib.Omega.{{arith}}\nuse mathlib.Core.Path.{{refl}}\nuse borrow.Author.Needs.{{needs}}").unwrap();
-    writeln!(out, "use Rattle·unicode·specs.specs.Inner.Ends.{{endsOf}}\nuse Rattle·unicode·specs.specs.{file}.{{{definition}}}").unwrap();
-    writeln!(out, "use Rattle·unicode·proofs.proofs.Ordered.{{{law}}}\nuse Rattle·unicode·proofs.proofs.TableParts.{{{laws}}}").unwrap();
-    writeln!(out, "use Rattle·unicode·proofs.proofs.{module}.contains.Statement.{{statement}}").unwrap();
-    writeln!(out, "use Rattle·unicode·proofs.proofs.{module}.contains.Tie as tie\n").unwrap();
-    let numbered = |name: &str, i: usize| if i == 0 { name.to_string() } else { format!("{name}-{}", i + 1) };
-    for i in 0..chunks.len() {
-        let name = numbered("slice-aggregate-in-ranges", i);
-        writeln!(out, "{name} : tie.Need-{name}\n{name} c = search needs\n").unwrap();
-        let name = numbered("in-ranges-requires", i);
-        writeln!(out, "{name} : tie.Need-{name}\n{name} c κs = search needs\n").unwrap();
-    }
+    writeln!(out, "use native.Mathlib.Omega.{{arith}}\nuse mathlib.Core.Path.{{refl}}").unwrap();
+    writeln!(out, "use Rattle.characters.specs.Inner.Ends.{{endsOf}}").unwrap();
+    writeln!(out, "use Rattle.characters.specs.{file}.{{{definition}}}").unwrap();
+    writeln!(out, "use Rattle.characters.proofs.Ordered.{{{law}}}").unwrap();
+    writeln!(out, "use Rattle.characters.proofs.TableParts.{{{laws}}}").unwrap();
+    writeln!(out, "use Rattle.characters.proofs.{module}.contains.Goals as goal").unwrap();
     for (i, chunk) in chunks.iter().enumerate() {
-        let name = numbered("returns", i);
         let low = if i == 0 { 0 } else { chunk[0].0 };
+        let high = chunks.get(i + 1).map(|next| next[0].0 - 1);
+        // what Rattle adds to a name for the arm that it stands in; the first call has its name alone
+        let arm = match high {
+            _ if chunks.len() == 1 => String::new(),
+            Some(high) => format!("-in-{low}-to-{high}"),
+            None => "-in_default".to_string(),
+        };
+        let goal = format!("returns{arm}");
+        let call = if i == 0 { "in_ranges".to_string() } else { format!("in_ranges{arm}") };
         let part = format!("{definition} {law} {} {} {low:#06X}", i * MOST, chunk.len());
-        let answer = match chunks.get(i + 1) {
-            Some(next) => format!("part-is {part} {:#06X} refl _ _ (omega arith) (omega arith)", next[0].0 - 1),
+        let answer = match high {
+            Some(high) => format!("part-is {part} {high:#06X} refl _ _ (omega arith) (omega arith)"),
             None => format!("last-part-is {part} refl refl _ _ (omega arith)"),
         };
-        let call = if i == 0 { "in-ranges".to_string() } else { format!("in-ranges{}", i + 1) };
-        writeln!(out, "{name} : tie.Need-{name}\nunfolding {definition} endsOf").unwrap();
-        writeln!(out, "{name} c = {answer} (c .{call} .ensures)\n").unwrap();
+        writeln!(out, "\npub {goal} : goal.{goal}\nunfolding {definition} endsOf").unwrap();
+        writeln!(out, "{goal} c = {answer} c.{call}.ensures").unwrap();
     }
-    writeln!(out, "pub contains-spec : {{M : Type 1}} → statement M\ncontains-spec =\n    tie.close\n    (tie.spec").unwrap();
-    for i in 0..chunks.len() {
-        writeln!(out, "    {}", numbered("slice-aggregate-in-ranges", i)).unwrap();
-        writeln!(out, "    {}", numbered("in-ranges-requires", i)).unwrap();
-    }
-    let answers: Vec<String> = (0..chunks.len()).map(|i| format!("    {}", numbered("returns", i))).collect();
-    writeln!(out, "{})", answers.join("\n")).unwrap();
     out
 }
 
@@ -189,6 +183,6 @@ fn main() {
         let ranges = ranges(class.test);
         fs::write(format!("{target}/specs/{}.antt", class.file), spec(&class, &ranges)).unwrap();
         fs::write(format!("{target}/src/{}.rt", class.module), source(&class, &ranges)).unwrap();
-        fs::write(format!("{target}/proofs/{}/contains/Proof.antt", class.module), proof(&class, &ranges)).unwrap();
+        fs::write(format!("{target}/proofs/{}/contains/Answers.antt", class.module), answers(&class, &ranges)).unwrap();
     }
 }

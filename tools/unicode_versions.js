@@ -1,4 +1,4 @@
-// Counts the code points on which the tables of crates/unicode differ from the Unicode version that node has, class by
+// Counts the code points on which the tables of crates/characters differ from the Unicode version that node has, class by
 // class (docs/DIFFERENCES.md gives the figures). Run: node tools/unicode_versions.js
 const fs = require("fs");
 const path = require("path");
