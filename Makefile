@@ -40,7 +40,7 @@ bench: $(build)/bench_unicode $(build)/bench_reading $(build)/bench_fill $(build
 	$(build)/bench_slow
 
 tables: $(build)/tables
-	$(build)/tables crates/unicode
+	$(build)/tables crates/characters
 	$(build)/tables sweep > crates/sweep/stdout
 	python3 tools/phrases.py phrases > $(build)/phrases.rt
 	python3 tools/phrases.py tables > $(build)/tables.rt
@@ -48,7 +48,8 @@ tables: $(build)/tables
 	for file in $$(python3 tools/phrase_proofs.py files); do \
 	    python3 tools/phrase_proofs.py $$file > crates/reserved/proofs/$$file.antt; \
 	done
-	rt fmt
+	cd crates/characters && rt fmt
+	cd crates/reserved && rt fmt
 
 vectors: $(patsubst tools/%_vectors.py,target/vectors/%,$(wildcard tools/*_vectors.py))
 	for file in $^; do cp $$file tests/vectors/$${file##*/}.txt; done
