@@ -124,19 +124,20 @@ def printed(entries):
 TABLES_HEAD = """\
 // One decision on the first letter and one on the first word's length pick the table in which a phrase is looked for. Made by
 // tools/phrases.py from the lists in specs/.
+ghost use Rattle.std.specs.Prelude.{◌≡◌};
+ghost use Rattle.reserved.specs.Inner.Entries.{length_of, group_of, entries, entriesOf, findEntry};
+ghost use Rattle.recognisers.specs.Inner.WordLength.{wordLength};
+
 use crate::find::find_in;
 use crate::phrases;
 use recognisers::capital_of;
-ghost use mathlib.Core.Path.{_≡_};
-ghost use Rattle·reserved·specs.specs.Inner.Entries.{lengthOf, groupOf, entries, entriesOf, findEntry};
-ghost use Rattle·recognisers.specs.Inner.WordLength.{wordLength};
 """
 
 OF_A_LETTER = """
 fn find_NAME(rest: &[u8], n: usize, found: &mut u8) -> usize
-    requires { ⌜ n ≡ wordLength (now rest) ⌝ }
-    ensures { λ r. ⌜ r ≡ lengthOf (findEntry (entriesOf LETTER entries) (now (rest .entry))) ⌝ }
-    ensures { λ _. ⌜ now (found .exit) ≡ groupOf (now (found .entry)) (findEntry (entriesOf LETTER entries) (now (rest .entry))) ⌝ }
+    requires { n ≡ wordLength rest.now }
+    ensures value { result ≡ length_of (findEntry (entriesOf LETTER entries) rest.now) }
+    ensures found_after { found.new ≡ group_of found.old (findEntry (entriesOf LETTER entries) rest.now) }
 {
     match n {
 ARMS        _ => 0,
@@ -147,9 +148,9 @@ ARMS        _ => 0,
 OF_ALL = """
 // The first phrase that stands at the start of the rest: how many bytes it takes, or 0. Its group's letter is written to `found`.
 pub fn find_phrase(rest: &[u8], n: usize, found: &mut u8) -> usize
-    requires { ⌜ n ≡ wordLength (now rest) ⌝ }
-    ensures { λ r. ⌜ r ≡ lengthOf (findEntry entries (now (rest .entry))) ⌝ }
-    ensures { λ _. ⌜ now (found .exit) ≡ groupOf (now (found .entry)) (findEntry entries (now (rest .entry))) ⌝ }
+    requires { n ≡ wordLength rest.now }
+    ensures value { result ≡ length_of (findEntry entries rest.now) }
+    ensures found_after { found.new ≡ group_of found.old (findEntry entries rest.now) }
 {
     if rest.len() == 0 {
         return 0;
