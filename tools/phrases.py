@@ -71,6 +71,10 @@ class Lists:
         items = re.split(r"∷|\+\+", self.bodies[name])
         return [entry for item in items for entry in self.item(item.strip())]
 
+    def joined(self, name):
+        """The names of the lists that a list joins"""
+        return [item.strip() for item in self.bodies[name].split("++")]
+
     def entries(self):
         """All phrases in the order of trying, each with its group's letter"""
         body = self.one(r"^entries =((?:\n .*)+)")
