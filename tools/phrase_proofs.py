@@ -49,9 +49,9 @@ unfoldable pub entries-NAME : List (ℕ × List ℕ)
 entries-NAME =
     ENTRIES []
 
-pub LAW : entriesOf LETTER entries ≡ entries-NAME
+pub is-NAME : entriesOf LETTER entries ≡ entries-NAME
 unfolding entries-NAME entriesOf {LISTS}
-LAW = refl
+is-NAME = refl
 """
 
 # ---- the answers of one letter's function
@@ -67,13 +67,13 @@ use Rattle.characters.specs.Ranges.{within}
 use Rattle.characters.specs.Ascii.{isLetter, isAsciiWord}
 use Rattle.recognisers.specs.Taking.{count, contains}
 use Rattle.reserved.specs.Inner.Entries.{encoded, entriesLong}
-use Rattle.reserved.proofs.LetterEntries.{entries-NAME, LAW}
+use Rattle.reserved.proofs.LetterEntries.{entries-NAME, is-NAME}
 use Rattle.reserved.proofs.OtherLengths.{long-is, long-none}
 use Rattle.reserved.proofs.tables.find_NAME.Goals as goal
 """
 
 SO_LONG = (
-    "long-is LETTER entries-NAME LAW _ _ c.requires LENGTH c.in-LENGTH.is"
+    "long-is LETTER entries-NAME is-NAME _ _ c.requires LENGTH c.in-LENGTH.is"
     " _ _ _ _ c.CALL.ensures.value c.CALL.ensures.found_after refl"
 )
 UNFOLDING_LONG = f"encoded entriesLong {WORDS} entries-NAME"
@@ -83,7 +83,7 @@ lengths : List ℕ
 lengths = LENGTHS
 """
 
-NONE_SO_LONG = "long-none LETTER entries-NAME LAW _ _ c.requires lengths c.args.found.now refl (search rules)"
+NONE_SO_LONG = "long-none LETTER entries-NAME is-NAME _ _ c.requires lengths c.args.found.now refl (search rules)"
 UNFOLDING_NONE_LONG = f"lengths contains {WORDS} entries-NAME"
 
 # ---- the answers of the function that picks a letter's
@@ -147,17 +147,11 @@ def small(letter):
     return phrases.name_of(letter).lower()
 
 
-def law(letter):
-    """The name of the law that a letter's entries are those of LetterEntries"""
-    return ("is_" if letter in "BCFMXY" else "is-") + small(letter)
-
-
 def letter_entries(all_entries, tables):
     text = ENTRIES_HEAD
     for letter in tables:
         entries = [f'({ord(group)}, bytes "{words}") ∷' for group, words in all_entries if words[0] == letter]
-        parts = {"ENTRIES": "\n    ".join(entries), "NAME": small(letter), "LETTER": ord(letter), "LAW": law(letter)}
-        text += filled(ENTRIES_OF_A_LETTER, **parts)
+        text += filled(ENTRIES_OF_A_LETTER, ENTRIES="\n    ".join(entries), NAME=small(letter), LETTER=ord(letter))
     return text
 
 
@@ -170,7 +164,7 @@ def of_a_letter(letter, lengths):
         text += answers(f"returns-in-{length}", halves(found), UNFOLDING_LONG)
     text += filled(LENGTHS_OF_A_LETTER, LENGTHS=listed(lengths))
     text += answers("returns-in_default", halves(NONE_SO_LONG), UNFOLDING_NONE_LONG)
-    return filled(text, NAME=small(letter), LETTER=ord(letter), LAW=law(letter))
+    return filled(text, NAME=small(letter), LETTER=ord(letter))
 
 
 def of_all(tables):

@@ -65,9 +65,9 @@ entries-b =
     (82, bytes "BINLOG") ∷
     (82, bytes "BOTH") ∷ []
 
-pub is_b : entriesOf 66 entries ≡ entries-b
+pub is-b : entriesOf 66 entries ≡ entries-b
 unfolding entries-b entriesOf entries grouped topLevelPhrases creatable alterableOrDroppable each eachDropped newlineAfterPhrases newlinePhrases joinPhrases noIndentPhrases plainTwoPhrases plainOnePhrases plainA plainB plainC plainD plainE plain_f plainG plainH plainI plainK plainL plainM plainN plainO plainP plainQ plainR plainS plainT plainU plainV plainW plainY
-is_b = refl
+is-b = refl
 
 unfoldable pub entries-c : List (ℕ × List ℕ)
 entries-c =
@@ -121,9 +121,9 @@ entries-c =
     (82, bytes "CROSS") ∷
     (82, bytes "CURRENT_TIMESTAMP") ∷ []
 
-pub is_c : entriesOf 67 entries ≡ entries-c
+pub is-c : entriesOf 67 entries ≡ entries-c
 unfolding entries-c entriesOf entries grouped topLevelPhrases creatable alterableOrDroppable each eachDropped newlineAfterPhrases newlinePhrases joinPhrases noIndentPhrases plainTwoPhrases plainOnePhrases plainA plainB plainC plainD plainE plain_f plainG plainH plainI plainK plainL plainM plainN plainO plainP plainQ plainR plainS plainT plainU plainV plainW plainY
-is_c = refl
+is-c = refl
 
 unfoldable pub entries-d : List (ℕ × List ℕ)
 entries-d =
@@ -217,9 +217,9 @@ entries-f =
     (82, bytes "FULLTEXT") ∷
     (82, bytes "FUNCTION") ∷ []
 
-pub is_f : entriesOf 70 entries ≡ entries-f
+pub is-f : entriesOf 70 entries ≡ entries-f
 unfolding entries-f entriesOf entries grouped topLevelPhrases creatable alterableOrDroppable each eachDropped newlineAfterPhrases newlinePhrases joinPhrases noIndentPhrases plainTwoPhrases plainOnePhrases plainA plainB plainC plainD plainE plain_f plainG plainH plainI plainK plainL plainM plainN plainO plainP plainQ plainR plainS plainT plainU plainV plainW plainY
-is_f = refl
+is-f = refl
 
 unfoldable pub entries-g : List (ℕ × List ℕ)
 entries-g =
@@ -352,9 +352,9 @@ entries-m =
     (82, bytes "MRG_MYISAM") ∷
     (82, bytes "MYISAM") ∷ []
 
-pub is_m : entriesOf 77 entries ≡ entries-m
+pub is-m : entriesOf 77 entries ≡ entries-m
 unfolding entries-m entriesOf entries grouped topLevelPhrases creatable alterableOrDroppable each eachDropped newlineAfterPhrases newlinePhrases joinPhrases noIndentPhrases plainTwoPhrases plainOnePhrases plainA plainB plainC plainD plainE plain_f plainG plainH plainI plainK plainL plainM plainN plainO plainP plainQ plainR plainS plainT plainU plainV plainW plainY
-is_m = refl
+is-m = refl
 
 unfoldable pub entries-n : List (ℕ × List ℕ)
 entries-n =
@@ -581,14 +581,14 @@ unfoldable pub entries-x : List (ℕ × List ℕ)
 entries-x =
     (78, bytes "XOR") ∷ []
 
-pub is_x : entriesOf 88 entries ≡ entries-x
+pub is-x : entriesOf 88 entries ≡ entries-x
 unfolding entries-x entriesOf entries grouped topLevelPhrases creatable alterableOrDroppable each eachDropped newlineAfterPhrases newlinePhrases joinPhrases noIndentPhrases plainTwoPhrases plainOnePhrases plainA plainB plainC plainD plainE plain_f plainG plainH plainI plainK plainL plainM plainN plainO plainP plainQ plainR plainS plainT plainU plainV plainW plainY
-is_x = refl
+is-x = refl
 
 unfoldable pub entries-y : List (ℕ × List ℕ)
 entries-y =
     (82, bytes "YEAR_MONTH") ∷ []
 
-pub is_y : entriesOf 89 entries ≡ entries-y
+pub is-y : entriesOf 89 entries ≡ entries-y
 unfolding entries-y entriesOf entries grouped topLevelPhrases creatable alterableOrDroppable each eachDropped newlineAfterPhrases newlinePhrases joinPhrases noIndentPhrases plainTwoPhrases plainOnePhrases plainA plainB plainC plainD plainE plain_f plainG plainH plainI plainK plainL plainM plainN plainO plainP plainQ plainR plainS plainT plainU plainV plainW plainY
-is_y = refl
+is-y = refl

@@ -1,48 +1,56 @@
+-- Each arm looks in the table that has the phrases of its length. Made by tools/phrase_proofs.py.
+-- Assumes nothing.
+use Prim.Native.Nat.{ℕ}
+use mathlib.Core.List.{List, [], ◌∷◌}
 use mathlib.Core.Path.{refl}
+use borrow.Author.Rules.{rules}
 use Rattle.characters.specs.Ranges.{within}
 use Rattle.characters.specs.Ascii.{isLetter, isAsciiWord}
-use Rattle.recognisers.specs.Taking.{count}
+use Rattle.recognisers.specs.Taking.{count, contains}
 use Rattle.reserved.specs.Inner.Entries.{encoded, entriesLong}
 use Rattle.reserved.proofs.LetterEntries.{entries-g, is-g}
-use Rattle.reserved.proofs.OtherLengths.{long-is}
+use Rattle.reserved.proofs.OtherLengths.{long-is, long-none}
 use Rattle.reserved.proofs.tables.find_g.Goals as goal
 
 pub returns-in-2-clause-value : goal.returns-in-2-clause-value
 unfolding encoded entriesLong count isAsciiWord isLetter within entries-g
-returns-in-2-clause-value c = long-is 71 entries-g is-g _ _ c.requires 5 c.match.keys2 _ _ _ _ c.find_in-in-2-clause-value.ensures.0 c.find_in-in-2-clause-value.ensures.1 refl
+returns-in-2-clause-value c = (long-is 71 entries-g is-g _ _ c.requires 2 c.in-2.is _ _ _ _ c.find_in.ensures.value c.find_in.ensures.found_after refl).0
 
 pub returns-in-2-clause-found_after : goal.returns-in-2-clause-found_after
 unfolding encoded entriesLong count isAsciiWord isLetter within entries-g
-returns-in-2-clause-found_after c = long-is 71 entries-g is-g _ _ c.requires 2 c.match.keys1 _ _ _ _ c.find_in.ensures.0 c.find_in.ensures.1 refl
+returns-in-2-clause-found_after c = (long-is 71 entries-g is-g _ _ c.requires 2 c.in-2.is _ _ _ _ c.find_in.ensures.value c.find_in.ensures.found_after refl).1
 
 pub returns-in-5-clause-value : goal.returns-in-5-clause-value
 unfolding encoded entriesLong count isAsciiWord isLetter within entries-g
-returns-in-5-clause-value c = long-is 71 entries-g is-g _ _ c.requires 2 c.match.keys1 _ _ _ _ c.find_in.ensures.0 c.find_in.ensures.1 refl
+returns-in-5-clause-value c = (long-is 71 entries-g is-g _ _ c.requires 5 c.in-5.is _ _ _ _ c.find_in-in-5.ensures.value c.find_in-in-5.ensures.found_after refl).0
 
 pub returns-in-5-clause-found_after : goal.returns-in-5-clause-found_after
 unfolding encoded entriesLong count isAsciiWord isLetter within entries-g
-returns-in-5-clause-found_after c = long-is 71 entries-g is-g _ _ c.requires 2 c.match.keys1 _ _ _ _ c.find_in.ensures.0 c.find_in.ensures.1 refl
+returns-in-5-clause-found_after c = (long-is 71 entries-g is-g _ _ c.requires 5 c.in-5.is _ _ _ _ c.find_in-in-5.ensures.value c.find_in-in-5.ensures.found_after refl).1
 
 pub returns-in-6-clause-value : goal.returns-in-6-clause-value
 unfolding encoded entriesLong count isAsciiWord isLetter within entries-g
-returns-in-6-clause-value c = long-is 71 entries-g is-g _ _ c.requires 2 c.match.keys1 _ _ _ _ c.find_in.ensures.0 c.find_in.ensures.1 refl
+returns-in-6-clause-value c = (long-is 71 entries-g is-g _ _ c.requires 6 c.in-6.is _ _ _ _ c.find_in-in-6.ensures.value c.find_in-in-6.ensures.found_after refl).0
 
 pub returns-in-6-clause-found_after : goal.returns-in-6-clause-found_after
 unfolding encoded entriesLong count isAsciiWord isLetter within entries-g
-returns-in-6-clause-found_after c = long-is 71 entries-g is-g _ _ c.requires 5 c.match.keys2 _ _ _ _ c.find_in-in-6-clause-found_after.ensures.0 c.find_in-in-6-clause-found_after.ensures.1 refl
+returns-in-6-clause-found_after c = (long-is 71 entries-g is-g _ _ c.requires 6 c.in-6.is _ _ _ _ c.find_in-in-6.ensures.value c.find_in-in-6.ensures.found_after refl).1
 
 pub returns-in-12-clause-value : goal.returns-in-12-clause-value
 unfolding encoded entriesLong count isAsciiWord isLetter within entries-g
-returns-in-12-clause-value c = long-is 71 entries-g is-g _ _ c.requires 5 c.match.keys2 _ _ _ _ c.find_in-in-12-clause-value.ensures.0 c.find_in-in-12-clause-value.ensures.1 refl
+returns-in-12-clause-value c = (long-is 71 entries-g is-g _ _ c.requires 12 c.in-12.is _ _ _ _ c.find_in-in-12.ensures.value c.find_in-in-12.ensures.found_after refl).0
 
 pub returns-in-12-clause-found_after : goal.returns-in-12-clause-found_after
 unfolding encoded entriesLong count isAsciiWord isLetter within entries-g
-returns-in-12-clause-found_after c = long-is 71 entries-g is-g _ _ c.requires 5 c.match.keys2 _ _ _ _ c.find_in-in-12-clause-found_after.ensures.0 c.find_in-in-12-clause-found_after.ensures.1 refl
+returns-in-12-clause-found_after c = (long-is 71 entries-g is-g _ _ c.requires 12 c.in-12.is _ _ _ _ c.find_in-in-12.ensures.value c.find_in-in-12.ensures.found_after refl).1
+
+lengths : List ℕ
+lengths = 2 ∷ 5 ∷ 6 ∷ 12 ∷ []
 
 pub returns-in_default-clause-value : goal.returns-in_default-clause-value
-unfolding encoded entriesLong count isAsciiWord isLetter within entries-g
-returns-in_default-clause-value c = long-is 71 entries-g is-g _ _ c.requires 5 c.match.keys2 _ _ _ _ c.find_in-in_default-clause-value.ensures.0 c.find_in-in_default-clause-value.ensures.1 refl
+unfolding lengths contains count isAsciiWord isLetter within entries-g
+returns-in_default-clause-value c = (long-none 71 entries-g is-g _ _ c.requires lengths c.args.found.now refl (search rules)).0
 
 pub returns-in_default-clause-found_after : goal.returns-in_default-clause-found_after
-unfolding encoded entriesLong count isAsciiWord isLetter within entries-g
-returns-in_default-clause-found_after c = long-is 71 entries-g is-g _ _ c.requires 5 c.match.keys2 _ _ _ _ c.find_in-in_default-clause-found_after.ensures.0 c.find_in-in_default-clause-found_after.ensures.1 refl
+unfolding lengths contains count isAsciiWord isLetter within entries-g
+returns-in_default-clause-found_after c = (long-none 71 entries-g is-g _ _ c.requires lengths c.args.found.now refl (search rules)).1

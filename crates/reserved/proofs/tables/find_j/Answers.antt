@@ -1,4 +1,9 @@
+-- Each arm looks in the table that has the phrases of its length. Made by tools/phrase_proofs.py.
+-- Assumes nothing.
+use Prim.Native.Nat.{ℕ}
+use mathlib.Core.List.{List, [], ◌∷◌}
 use mathlib.Core.Path.{refl}
+use borrow.Author.Rules.{rules}
 use Rattle.characters.specs.Ranges.{within}
 use Rattle.characters.specs.Ascii.{isLetter, isAsciiWord}
 use Rattle.recognisers.specs.Taking.{count, contains}
@@ -8,17 +13,20 @@ use Rattle.reserved.proofs.OtherLengths.{long-is, long-none}
 use Rattle.reserved.proofs.tables.find_j.Goals as goal
 
 pub returns-in-4-clause-value : goal.returns-in-4-clause-value
-unfolding lengths contains count isAsciiWord isLetter within entries-j
-returns-in-4-clause-value c = long-none 74 entries-j is-j _ _ c.requires lengths _ refl c.match.rest
+unfolding encoded entriesLong count isAsciiWord isLetter within entries-j
+returns-in-4-clause-value c = (long-is 74 entries-j is-j _ _ c.requires 4 c.in-4.is _ _ _ _ c.find_in.ensures.value c.find_in.ensures.found_after refl).0
 
 pub returns-in-4-clause-found_after : goal.returns-in-4-clause-found_after
 unfolding encoded entriesLong count isAsciiWord isLetter within entries-j
-returns-in-4-clause-found_after c = long-is 74 entries-j is-j _ _ c.requires 4 c.match.keys1 _ _ _ _ c.find_in.ensures.0 c.find_in.ensures.1 refl
+returns-in-4-clause-found_after c = (long-is 74 entries-j is-j _ _ c.requires 4 c.in-4.is _ _ _ _ c.find_in.ensures.value c.find_in.ensures.found_after refl).1
+
+lengths : List ℕ
+lengths = 4 ∷ []
 
 pub returns-in_default-clause-value : goal.returns-in_default-clause-value
 unfolding lengths contains count isAsciiWord isLetter within entries-j
-returns-in_default-clause-value c = long-none 74 entries-j is-j _ _ c.requires lengths _ refl c.match.rest
+returns-in_default-clause-value c = (long-none 74 entries-j is-j _ _ c.requires lengths c.args.found.now refl (search rules)).0
 
 pub returns-in_default-clause-found_after : goal.returns-in_default-clause-found_after
 unfolding lengths contains count isAsciiWord isLetter within entries-j
-returns-in_default-clause-found_after c = long-none 74 entries-j is-j _ _ c.requires lengths _ refl c.match.rest
+returns-in_default-clause-found_after c = (long-none 74 entries-j is-j _ _ c.requires lengths c.args.found.now refl (search rules)).1

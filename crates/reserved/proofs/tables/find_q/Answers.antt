@@ -1,4 +1,9 @@
+-- Each arm looks in the table that has the phrases of its length. Made by tools/phrase_proofs.py.
+-- Assumes nothing.
+use Prim.Native.Nat.{ℕ}
+use mathlib.Core.List.{List, [], ◌∷◌}
 use mathlib.Core.Path.{refl}
+use borrow.Author.Rules.{rules}
 use Rattle.characters.specs.Ranges.{within}
 use Rattle.characters.specs.Ascii.{isLetter, isAsciiWord}
 use Rattle.recognisers.specs.Taking.{count, contains}
@@ -8,17 +13,20 @@ use Rattle.reserved.proofs.OtherLengths.{long-is, long-none}
 use Rattle.reserved.proofs.tables.find_q.Goals as goal
 
 pub returns-in-5-clause-value : goal.returns-in-5-clause-value
-unfolding lengths contains count isAsciiWord isLetter within entries-q
-returns-in-5-clause-value c = long-none 81 entries-q is-q _ _ c.requires lengths _ refl c.match.rest
+unfolding encoded entriesLong count isAsciiWord isLetter within entries-q
+returns-in-5-clause-value c = (long-is 81 entries-q is-q _ _ c.requires 5 c.in-5.is _ _ _ _ c.find_in.ensures.value c.find_in.ensures.found_after refl).0
 
 pub returns-in-5-clause-found_after : goal.returns-in-5-clause-found_after
 unfolding encoded entriesLong count isAsciiWord isLetter within entries-q
-returns-in-5-clause-found_after c = long-is 81 entries-q is-q _ _ c.requires 5 c.match.keys1 _ _ _ _ c.find_in.ensures.0 c.find_in.ensures.1 refl
+returns-in-5-clause-found_after c = (long-is 81 entries-q is-q _ _ c.requires 5 c.in-5.is _ _ _ _ c.find_in.ensures.value c.find_in.ensures.found_after refl).1
+
+lengths : List ℕ
+lengths = 5 ∷ []
 
 pub returns-in_default-clause-value : goal.returns-in_default-clause-value
 unfolding lengths contains count isAsciiWord isLetter within entries-q
-returns-in_default-clause-value c = long-none 81 entries-q is-q _ _ c.requires lengths _ refl c.match.rest
+returns-in_default-clause-value c = (long-none 81 entries-q is-q _ _ c.requires lengths c.args.found.now refl (search rules)).0
 
 pub returns-in_default-clause-found_after : goal.returns-in_default-clause-found_after
 unfolding lengths contains count isAsciiWord isLetter within entries-q
-returns-in_default-clause-found_after c = long-none 81 entries-q is-q _ _ c.requires lengths _ refl c.match.rest
+returns-in_default-clause-found_after c = (long-none 81 entries-q is-q _ _ c.requires lengths c.args.found.now refl (search rules)).1

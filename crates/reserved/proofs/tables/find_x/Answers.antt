@@ -1,24 +1,32 @@
+-- Each arm looks in the table that has the phrases of its length. Made by tools/phrase_proofs.py.
+-- Assumes nothing.
+use Prim.Native.Nat.{ℕ}
+use mathlib.Core.List.{List, [], ◌∷◌}
 use mathlib.Core.Path.{refl}
+use borrow.Author.Rules.{rules}
 use Rattle.characters.specs.Ranges.{within}
 use Rattle.characters.specs.Ascii.{isLetter, isAsciiWord}
 use Rattle.recognisers.specs.Taking.{count, contains}
 use Rattle.reserved.specs.Inner.Entries.{encoded, entriesLong}
-use Rattle.reserved.proofs.LetterEntries.{entries-x, is_x}
+use Rattle.reserved.proofs.LetterEntries.{entries-x, is-x}
 use Rattle.reserved.proofs.OtherLengths.{long-is, long-none}
 use Rattle.reserved.proofs.tables.find_x.Goals as goal
 
 pub returns-in-3-clause-value : goal.returns-in-3-clause-value
-unfolding lengths contains count isAsciiWord isLetter within entries-x
-returns-in-3-clause-value c = long-none 88 entries-x is_x _ _ c.requires lengths _ refl c.match.rest
+unfolding encoded entriesLong count isAsciiWord isLetter within entries-x
+returns-in-3-clause-value c = (long-is 88 entries-x is-x _ _ c.requires 3 c.in-3.is _ _ _ _ c.find_in.ensures.value c.find_in.ensures.found_after refl).0
 
 pub returns-in-3-clause-found_after : goal.returns-in-3-clause-found_after
 unfolding encoded entriesLong count isAsciiWord isLetter within entries-x
-returns-in-3-clause-found_after c = long-is 88 entries-x is_x _ _ c.requires 3 c.match.keys1 _ _ _ _ c.find_in.ensures.0 c.find_in.ensures.1 refl
+returns-in-3-clause-found_after c = (long-is 88 entries-x is-x _ _ c.requires 3 c.in-3.is _ _ _ _ c.find_in.ensures.value c.find_in.ensures.found_after refl).1
+
+lengths : List ℕ
+lengths = 3 ∷ []
 
 pub returns-in_default-clause-value : goal.returns-in_default-clause-value
 unfolding lengths contains count isAsciiWord isLetter within entries-x
-returns-in_default-clause-value c = long-none 88 entries-x is_x _ _ c.requires lengths _ refl c.match.rest
+returns-in_default-clause-value c = (long-none 88 entries-x is-x _ _ c.requires lengths c.args.found.now refl (search rules)).0
 
 pub returns-in_default-clause-found_after : goal.returns-in_default-clause-found_after
 unfolding lengths contains count isAsciiWord isLetter within entries-x
-returns-in_default-clause-found_after c = long-none 88 entries-x is_x _ _ c.requires lengths _ refl c.match.rest
+returns-in_default-clause-found_after c = (long-none 88 entries-x is-x _ _ c.requires lengths c.args.found.now refl (search rules)).1
