@@ -1,6 +1,4 @@
-use Rattle.std.proofs.Common.{rules}
-use Rattle.reserved.proofs.MeasuredGaps.{same_count}
-use Rattle.reserved.proofs.PhraseWalk.{words-fit, entry-fits}
+use Rattle.reserved.proofs.PhraseWalk.{words-fit, entry-yes, entry-no, entry-fits}
 use Rattle.reserved.proofs.find.entry_end.Goals as goal
 
 pub slice_bounds-ending_of-count : goal.slice_bounds-ending_of-count
@@ -13,7 +11,7 @@ pub n_more-requires : goal.n_more-requires
 n_more-requires c = search entry-fits
 
 pub returns-in-Bytes-clause-value : goal.returns-in-Bytes-clause-value
-returns-in-Bytes-clause-value c = search (rules, words-fit, entry-fits, same_count)
+returns-in-Bytes-clause-value c = search entry-yes
 
 pub returns-in-Fails-clause-value : goal.returns-in-Fails-clause-value
-returns-in-Fails-clause-value c = search (rules, words-fit, entry-fits, same_count)
+returns-in-Fails-clause-value c = search entry-no

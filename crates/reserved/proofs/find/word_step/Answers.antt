@@ -1,9 +1,8 @@
-use Rattle.std.proofs.Common.{rules}
-use borrow.Author.Tests.{ne_eqb}
+use Rattle.reserved.proofs.PhraseWalk.{gap-none, gap-taken}
 use Rattle.reserved.proofs.find.word_step.Goals as goal
 
 pub returns-then-n-eq0-clause-value : goal.returns-then-n-eq0-clause-value
-returns-then-n-eq0-clause-value c = search (rules, ne_eqb)
+returns-then-n-eq0-clause-value c = search gap-none
 
 pub returns-then-w-eq32-clause-value : goal.returns-then-w-eq32-clause-value
-returns-then-w-eq32-clause-value c = search (rules, ne_eqb)
+returns-then-w-eq32-clause-value c = search gap-taken

@@ -1,10 +1,9 @@
 use Rattle.std.proofs.Common.{rules}
-use Rattle.reserved.proofs.PhraseWalk.{walk-fits, walk_more}
-use Rattle.reserved.proofs.MeasuredGaps.{same_count}
+use Rattle.reserved.proofs.PhraseWalk.{walk-fails, walk-fits, walk_more, walk_end}
 use Rattle.reserved.proofs.find.words_end.Goals as goal
 
 pub returns-in_default-clause-value : goal.returns-in_default-clause-value
-returns-in_default-clause-value c = search (rules, same_count, walk-fits)
+returns-in_default-clause-value c = search walk-fails
 
 pub overflow_add-at : goal.overflow_add-at
 overflow_add-at c = search walk-fits
@@ -13,4 +12,4 @@ pub loop-i-preserved : goal.loop-i-preserved
 loop-i-preserved c = record { walked = search walk_more; measured = search rules; low = search rules }
 
 pub returns-clause-value : goal.returns-clause-value
-returns-clause-value c = search (rules, same_count, walk-fits)
+returns-clause-value c = search walk_end
