@@ -1,0 +1,5 @@
+use Rattle.tokenizer.proofs.RecordBytes.{key-put}
+use Rattle.tokenizer.proofs.records.put_key.Goals as goal
+
+pub returns : goal.returns
+returns c = search key-put

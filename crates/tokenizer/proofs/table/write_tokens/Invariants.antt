@@ -1,0 +1,3 @@
+use Rattle.tokenizer.proofs.table.write_tokens.Given as goal
+
+
