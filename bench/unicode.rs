@@ -1,4 +1,4 @@
-// Speed of the crate `unicode`, beside std::str::from_utf8 in the same run. Each figure is the median of repeated runs.
+// Speed of the crate `characters`, beside std::str::from_utf8 in the same run. Each figure is the median of repeated runs.
 mod timing;
 #[path = "../tests/unicode/unicode.rs"]
 mod unicode;
