@@ -1,6 +1,7 @@
 /*
  * Ventpeeler: reads a planner's search, written as SQL, into tokens; makes its tight text; puts values in for its
- * placeholders. C99 and C++. Link target/staticlib/libventpeeler.a (x86-64 Linux); it needs no other library.
+ * placeholders. C99 and C++. Link target/staticlib/libventpeeler.a (Linux on x86-64-v2, that is, with SSE4.2 and POPCNT); it
+ * needs no library but C's.
  *
  *     ventpeeler_tokenize   the tokens, as records of VENTPEELER_RECORD_BYTES
  *     ventpeeler_tighten    the tight text, a key for the search
