@@ -1,21 +1,22 @@
-// Puts every number from 0 to 0x10FFFF through each class function of `unicode`, and prints each class's name and the
+// Puts every number from 0 to 0x10FFFF through each class function of `characters`, and prints each class's name and the
 // ranges that it finds, their first and last code point in hexadecimal.
 #![tactic(auto)]
 
-use libc::STDOUT_FILENO;
+use std::io;
+use std::io::{BufWriter, Write};
 
 const CLASSES: u32 = 8;
 
-fn name(class: u32) -> bool {
+fn name(class: u32) -> &'static str {
     match class {
-        0 => io::write_all(STDOUT_FILENO, b"is_whitespace\n"),
-        1 => io::write_all(STDOUT_FILENO, b"is_alphabetic\n"),
-        2 => io::write_all(STDOUT_FILENO, b"is_numeric\n"),
-        3 => io::write_all(STDOUT_FILENO, b"is_mark\n"),
-        4 => io::write_all(STDOUT_FILENO, b"is_punctuation_connector\n"),
-        5 => io::write_all(STDOUT_FILENO, b"is_alphanumeric\n"),
-        6 => io::write_all(STDOUT_FILENO, b"is_word_character\n"),
-        _ => io::write_all(STDOUT_FILENO, b"is_placeholder_name_character\n"),
+        0 => "is_whitespace",
+        1 => "is_alphabetic",
+        2 => "is_numeric",
+        3 => "is_mark",
+        4 => "is_punctuation_connector",
+        5 => "is_alphanumeric",
+        6 => "is_word_character",
+        _ => "is_placeholder_name_character",
     }
 }
 
@@ -32,14 +33,11 @@ fn contains(class: u32, c: u32) -> bool {
     }
 }
 
-fn print_range(first: u32, last: u32) {
-    io::print_hex(STDOUT_FILENO, first as u64, 4);
-    io::write_all(STDOUT_FILENO, b" ");
-    io::print_hex(STDOUT_FILENO, last as u64, 4);
-    io::write_all(STDOUT_FILENO, b"\n");
+fn print_range<W: Write>(output: &mut W, first: u32, last: u32) -> io::Result<()> {
+    writeln!(output, "{first:04x} {last:04x}")
 }
 
-fn sweep_class(class: u32) {
+fn sweep_class<W: Write>(output: &mut W, class: u32) -> io::Result<()> {
     let mut first: u32 = 0;
     let mut last: u32 = 0;
     let mut inside = false;
@@ -52,19 +50,23 @@ fn sweep_class(class: u32) {
             last = c;
         } else {
             if inside {
-                print_range(first, last);
+                print_range(output, first, last)?;
             }
             inside = false;
         }
     }
     if inside {
-        print_range(first, last);
+        print_range(output, first, last)?;
     }
+    Ok(())
 }
 
-fn main() {
+fn main(rt: HostRuntime) -> io::Result<()> {
+    let mut output = BufWriter::new(rt.alloc(), io::writer(&rt))?;
     for class in 0..CLASSES {
-        name(class);
-        sweep_class(class);
+        let name = name(class);
+        writeln!(output, "{name}")?;
+        sweep_class(&mut output, class)?;
     }
+    output.flush()
 }
