@@ -1,2 +1,2 @@
--- What printing an answer asks for.
+-- What printing an answer asks for, and what it prints.
 pub mod Printed

@@ -1,12 +1,15 @@
-// What the programs share: a statement from standard input; numbers, answers and refusals on standard output.
+// What the programs share: a statement read from an input; numbers, answers and refusals printed to an output. Where an input or
+// an output fails, the error is passed on, and a program ends with it.
 #![tactic(auto)]
 
-ghost use Rattle.std.specs.Prelude.{◌≡◌, length};
-ghost use Rattle.io.specs.Counts.{IsPrefixLen};
-ghost use Rattle.console.specs.Printed.{WrittenInside};
+ghost use Rattle.std.specs.Prelude.{◌≡◌, ◌<◌, ◌++◌, IfOk, OnOk, length, take, codes, decimal};
+ghost use Rattle.std.specs.Io.{ReadsAtMost};
+ghost use Rattle.std.specs.Io.KnownBytes.{Appends, Consumes, IsAtEnd};
+ghost use Rattle.console.specs.Printed.{WrittenInside, answer_text, refusal_line};
 
 use calls::{Refusal, TextAnswer, refusal_number};
-use libc::{STDIN_FILENO, STDOUT_FILENO};
+use std::io;
+use std::io::{Read, Write};
 
 // One byte more than a statement or a sheet may have: all that a call needs to refuse a longer one.
 pub fn text_space() -> [u8; 65537]
@@ -16,41 +19,58 @@ pub fn text_space() -> [u8; 65537]
 }
 
 // Reads to the end of the input or of the space, and answers how many bytes there were.
-pub fn read_text(space: &mut [u8]) -> usize
-    ensures { IsPrefixLen result space.new }
+pub fn read_text<R: Read>(input: &mut R, space: &mut [u8]) -> io::Result<usize>
+    ensures bound { ReadsAtMost result space.new }
+    ensures bytes { IfOk result (λ n. Consumes (R.remaining input.old) (R.remaining input.new) (take n space.new)) }
+    ensures end { IfOk result (λ n. n < length space.new → IsAtEnd (R.remaining input.new)) }
 {
-    io::read_full(STDIN_FILENO, space)
+    let mut done = 0;
+    while done < space.len() {
+        let n = input.read(&mut space[done..])?;
+        done += n;
+        if n == 0 {
+            break;
+        }
+    }
+    Ok(done)
 }
 
-pub fn print(text: &[u8]) {
-    io::write_all(STDOUT_FILENO, text);
+pub fn print<W: Write>(output: &mut W, text: &[u8]) -> io::Result<()>
+    ensures { OnOk result (Appends (W.contents output.old) (W.contents output.new) text.now) }
+{
+    output.write_all(text)
 }
 
-pub fn print_number(n: u64) {
-    io::print_decimal(STDOUT_FILENO, n);
+pub fn print_number<W: Write>(output: &mut W, n: u64) -> io::Result<()>
+    ensures { OnOk result (Appends (W.contents output.old) (W.contents output.new) (decimal n)) }
+{
+    write!(output, "{n}")
 }
 
 // A field behind another: a space before it.
-pub fn print_next(n: u64) {
-    print(b" ");
-    print_number(n);
+pub fn print_next<W: Write>(output: &mut W, n: u64) -> io::Result<()>
+    ensures { OnOk result (Appends (W.contents output.old) (W.contents output.new) (codes " " ++ decimal n)) }
+{
+    write!(output, " {n}")
 }
 
-pub fn print_refusal(refusal: Refusal) {
-    print(b"refused ");
-    print_number(refusal_number(refusal));
-    print(b"\n");
+pub fn print_refusal<W: Write>(output: &mut W, refusal: Refusal) -> io::Result<()>
+    ensures { OnOk result (Appends (W.contents output.old) (W.contents output.new) (refusal_line refusal)) }
+{
+    let number = refusal_number(refusal);
+    writeln!(output, "refused {number}")
 }
 
 // The text that a call wrote and nothing else, or its refusal.
-pub fn print_answer(answer: TextAnswer, output: &[u8])
-    requires { WrittenInside answer (length output.now) }
+pub fn print_answer<W: Write>(output: &mut W, answer: TextAnswer, text: &[u8]) -> io::Result<()>
+    requires { WrittenInside answer (length text.now) }
+    ensures { OnOk result (Appends (W.contents output.old) (W.contents output.new) (answer_text answer text.now)) }
 {
     match answer {
         TextAnswer::Written(count) => {
             let end = count as usize;
-            print(&output[..end]);
+            print(output, &text[..end])
         }
-        TextAnswer::Refused(refusal) => print_refusal(refusal),
+        TextAnswer::Refused(refusal) => print_refusal(output, refusal),
     }
 }
