@@ -8,17 +8,23 @@
 // beyond that is read past, since the statement behind it decides whether 1 or 2 comes before the sheet's 5.
 #![tactic(auto)]
 
-ghost use Rattle.std.specs.Prelude.{◌≡◌, ◌≤◌, length};
-ghost use Rattle.io.specs.Counts.{IsPrefixLen};
+ghost use Rattle.std.specs.Prelude.{◌≡◌, ◌≤◌, IfOk, length};
+ghost use Rattle.std.specs.Io.{ReadsAtMost};
 
 use calls::le32_at;
 use console::{print_answer, read_text, text_space};
-use libc::STDIN_FILENO;
 use params::fill;
+use std::io;
+use std::io::{BufWriter, Read, Write};
 
-fn print_filled(statement: &[u8], sheet: &[u8], output: &mut [u8]) {
-    let answer = fill(statement, 0, 0, 0, sheet, output);
-    print_answer(answer, output);
+fn print_filled<W: Write>(
+    output: &mut W,
+    statement: &[u8],
+    sheet: &[u8],
+    space: &mut [u8],
+) -> io::Result<()> {
+    let answer = fill(statement, 0, 0, 0, sheet, space);
+    print_answer(output, answer, space)
 }
 
 fn least(a: usize, b: usize) -> usize
@@ -29,46 +35,47 @@ fn least(a: usize, b: usize) -> usize
 }
 
 // Reads at most so many bytes to the start of `space`, where they have the room, and answers how many there were.
-fn read_up_to(most: usize, space: &mut [u8]) -> usize
-    ensures upper_bound { result ≤ most }
-    ensures prefix_len { IsPrefixLen result space.new }
+fn read_up_to<R: Read>(input: &mut R, most: usize, space: &mut [u8]) -> io::Result<usize>
+    ensures upper_bound { IfOk result (λ n. n ≤ most) }
+    ensures prefix_len { ReadsAtMost result space.new }
 {
     let len = least(most, space.len());
-    io::read_full(STDIN_FILENO, &mut space[..len])
+    read_text(input, &mut space[..len])
 }
 
 // Reads at most so many bytes, keeps none, and answers how many there were.
-fn read_past_piece(most: usize) -> usize
-    ensures { result ≤ most }
+fn read_past_piece<R: Read>(input: &mut R, most: usize) -> io::Result<usize>
+    ensures { IfOk result (λ n. n ≤ most) }
 {
-    let mut space = io::large_buffer();
-    read_up_to(most, &mut space)
+    let mut space = [0; 65536];
+    read_up_to(input, most, &mut space)
 }
 
 // Reads past so many bytes, or to the end of the input.
-fn read_past(count: usize) {
+fn read_past<R: Read>(input: &mut R, count: usize) -> io::Result<()> {
     let mut left = count;
     while left > 0 {
-        let n = read_past_piece(left);
+        let n = read_past_piece(input, left)?;
         if n == 0 {
-            return;
+            return Ok(());
         }
         left -= n;
     }
+    Ok(())
 }
 
 // Reads the sheet's length and the whole sheet, and answers how many bytes of it are kept.
-fn read_sheet(kept: &mut [u8]) -> usize
-    ensures { IsPrefixLen result kept.new }
+fn read_sheet<R: Read>(input: &mut R, kept: &mut [u8]) -> io::Result<usize>
+    ensures { ReadsAtMost result kept.new }
 {
-    let n = read_up_to(4, kept);
+    let n = read_up_to(input, 4, kept)?;
     if n < 4 {
-        return n;
+        return Ok(n);
     }
     let len = le32_at(kept, 0);
-    let got = read_up_to(len, kept);
-    read_past(len - got);
-    got
+    let got = read_up_to(input, len, kept)?;
+    read_past(input, len - got)?;
+    Ok(got)
 }
 
 fn output_space() -> [u8; 131072]
@@ -77,11 +84,18 @@ fn output_space() -> [u8; 131072]
     [0; 131072]
 }
 
-fn main() {
+fn answer<R: Read, W: Write>(input: &mut R, output: &mut W) -> io::Result<()> {
     let mut sheet = text_space();
     let mut statement = text_space();
-    let mut output = output_space();
-    let sheet_len = read_sheet(&mut sheet);
-    let len = read_text(&mut statement);
-    print_filled(&statement[..len], &sheet[..sheet_len], &mut output);
+    let mut space = output_space();
+    let sheet_len = read_sheet(input, &mut sheet)?;
+    let len = read_text(input, &mut statement)?;
+    print_filled(output, &statement[..len], &sheet[..sheet_len], &mut space)
+}
+
+// Ends with the error where standard input or standard output fails.
+fn main(rt: HostRuntime) -> io::Result<()> {
+    let mut output = BufWriter::new(rt.alloc(), io::writer(&rt))?;
+    answer(&mut rt.reader(), &mut output)?;
+    output.flush()
 }

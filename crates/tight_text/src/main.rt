@@ -3,17 +3,26 @@
 #![tactic(auto)]
 
 use console::{print_answer, read_text, text_space};
+use std::io;
+use std::io::{BufWriter, Read, Write};
 use tight::tighten;
 
-fn print_tight(statement: &[u8], output: &mut [u8]) {
-    let answer = tighten(statement, 0, 0, 0, output);
-    print_answer(answer, output);
+fn print_tight<W: Write>(output: &mut W, statement: &[u8], space: &mut [u8]) -> io::Result<()> {
+    let answer = tighten(statement, 0, 0, 0, space);
+    print_answer(output, answer, space)
 }
 
-fn main() {
-    let mut input = text_space();
+fn answer<R: Read, W: Write>(input: &mut R, output: &mut W) -> io::Result<()> {
+    let mut statement = text_space();
     // A tight text is no longer than its statement.
-    let mut output = text_space();
-    let n = read_text(&mut input);
-    print_tight(&input[..n], &mut output);
+    let mut space = text_space();
+    let n = read_text(input, &mut statement)?;
+    print_tight(output, &statement[..n], &mut space)
+}
+
+// Ends with the error where standard input or standard output fails.
+fn main(rt: HostRuntime) -> io::Result<()> {
+    let mut output = BufWriter::new(rt.alloc(), io::writer(&rt))?;
+    answer(&mut rt.reader(), &mut output)?;
+    output.flush()
 }
