@@ -95,7 +95,7 @@ fn answer<R: Read, W: Write>(input: &mut R, output: &mut W) -> io::Result<()> {
 
 // Ends with the error where standard input or standard output fails.
 fn main(rt: HostRuntime) -> io::Result<()> {
-    let mut output = BufWriter::new(rt.alloc(), io::writer(&rt))?;
-    answer(&mut rt.reader(), &mut output)?;
+    let mut output = BufWriter::new(rt.alloc(), rt.stdout())?;
+    answer(&mut rt.stdin(), &mut output)?;
     output.flush()
 }

@@ -62,7 +62,7 @@ fn sweep_class<W: Write>(output: &mut W, class: u32) -> io::Result<()> {
 }
 
 fn main(rt: HostRuntime) -> io::Result<()> {
-    let mut output = BufWriter::new(rt.alloc(), io::writer(&rt))?;
+    let mut output = BufWriter::new(rt.alloc(), rt.stdout())?;
     for class in 0..CLASSES {
         let name = name(class);
         writeln!(output, "{name}")?;
