@@ -1,2 +1,3 @@
--- Laws that the proofs of programs cite.
+-- Laws that the proofs of programs cite, and what reading uses.
 pub mod AnswersInside
+mod Reading

@@ -1,4 +1,4 @@
--- A read into the rest of a space: what was read before stays, and what is new follows it.
+-- What `read_text` reads.
 use Rattle.std.proofs.Common.{◌≡◌, ℕ, ◌+◌, ◌-◌, ◌≤◌, List, ◌++◌, Option, arith, length, take, slice_range, sym, ap, ◌∙◌, subst, le_refl, drop_at, length-take-le}
 use Rattle.std.proofs.lemmas.Slice.{take-put_mid_below}
 use Rattle.std.specs.Io.KnownBytes.{Consumes}
@@ -17,6 +17,7 @@ slice_range-put_mid a k n xs ys within fits =
     let after = post_of a k xs in
     ap (take ((a + n) - a)) (drop_at (take a xs) (ys ++ after) a (length-take-le a xs within)) ∙ ap (λ m. take m (ys ++ after)) same ∙ take-append-le n ys after fits
 
+-- a read into the rest of a space: what was read before stays, and what is new follows it
 pub Consumes-next : (a b c : Option (List ℕ)) (from n : ℕ) (space read : List ℕ) → from ≤ length space → n ≤ length read
     → Consumes a b (take from space) → Consumes b c (take n read)
     → Consumes a c (take (from + n) (put_mid from (length space - from) space read))

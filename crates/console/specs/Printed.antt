@@ -1,10 +1,15 @@
--- What an answer says was written lies inside an output of so many bytes. What is printed of a refusal and of an answer.
-use Rattle.std.specs.Prelude.{ℕ, ◌≤◌, List, ◌++◌, take, codes, decimal}
+-- What printing an answer asks for, and what is printed.
+use Rattle.std.specs.Prelude.{ℕ, ◌≤◌, cond, List, ◌++◌, ltb, length, take, codes, decimal}
+use Rattle.calls.specs.Checks.{acceptedOr}
 use Rattle.calls.specs.Refusals.{refusalNumber}
+use Rattle.calls.specs.declared.Checked.{Checked}
 use Rattle.calls.specs.declared.Refusal.{Refusal}
+use Rattle.calls.specs.declared.Refusal.TheVariants.{OutputFull}
+use Rattle.calls.specs.declared.Settings.{Settings}
 use Rattle.calls.specs.declared.TextAnswer.{TextAnswer}
 use Rattle.calls.specs.declared.TextAnswer.TheVariants.{Written, Refused}
 
+-- what an answer says was written lies inside an output of so many bytes
 abbrev pub WrittenInside : TextAnswer → ℕ → Type 0
 WrittenInside (Written n) room = n ≤ room
 WrittenInside (Refused refusal) room = Unit {0}
@@ -12,6 +17,15 @@ WrittenInside (Refused refusal) room = Unit {0}
 abbrev pub refusal_line : Refusal → List ℕ
 refusal_line refusal = codes "refused " ++ decimal (refusalNumber refusal) ++ codes "\n"
 
+-- what is printed of an answer and of the output that the call wrote
 abbrev pub answer_text : TextAnswer → List ℕ → List ℕ
 answer_text (Written n) output = take n output
 answer_text (Refused refusal) output = refusal_line refusal
+
+-- what is printed of a text, for an output of so many bytes
+abbrev pub text_printed : List ℕ → ℕ → List ℕ
+text_printed text room = cond (ltb room (length text)) (refusal_line (OutputFull (length text))) text
+
+-- the same of a call whose text depends on the settings
+unfoldable pub call_printed : (Settings → List ℕ) → ℕ → Checked → List ℕ
+call_printed text room = acceptedOr (λ settings. text_printed (text settings) room) refusal_line

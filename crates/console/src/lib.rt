@@ -2,7 +2,7 @@
 // an output fails, the error is passed on, and a program ends with it.
 #![tactic(auto)]
 
-ghost use Rattle.std.specs.Prelude.{◌≡◌, ◌<◌, ◌++◌, IfOk, OnOk, length, take, codes, decimal};
+ghost use Rattle.std.specs.Prelude.{◌≡◌, ◌<◌, ◌++◌, IfSome, IfOk, OnOk, length, take, codes, decimal};
 ghost use Rattle.std.specs.Io.{ReadsAtMost};
 ghost use Rattle.std.specs.Io.KnownBytes.{Appends, Consumes, IsAtEnd};
 ghost use Rattle.console.specs.Printed.{WrittenInside, answer_text, refusal_line};
@@ -23,6 +23,7 @@ pub fn read_text<R: Read>(input: &mut R, space: &mut [u8]) -> io::Result<usize>
     ensures bound { ReadsAtMost result space.new }
     ensures bytes { IfOk result (λ n. Consumes (R.remaining input.old) (R.remaining input.new) (take n space.new)) }
     ensures end { IfOk result (λ n. n < length space.new → IsAtEnd (R.remaining input.new)) }
+    ensures text { IfOk result (λ n. IfSome (R.remaining input.old) (λ xs. take n space.new ≡ take (length space.new) xs)) }
 {
     let mut done = 0;
     while done < space.len() {

@@ -1,4 +1,4 @@
-use Rattle.std.proofs.Common.{◌≡◌, ℕ, ◌+◌, rules, length, take, sym, length-take-le}
+use Rattle.std.proofs.Common.{rules}
 use Rattle.std.proofs.KnownBytes.{Consumes-nil}
 use Rattle.console.proofs.Reading.{Consumes-next}
 use Rattle.console.proofs.read_text.Goals as goal

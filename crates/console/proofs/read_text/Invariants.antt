@@ -1,5 +1,5 @@
-use Rattle.std.proofs.Common.{length, ◌-◌, ◌≡◌, ◌<◌, ◌++◌, ℕ, List, IfOk, OnOk, take, codes, decimal, ◌+◌, ◌*◌, ◌≤◌}
-use Rattle.std.specs.Io.KnownBytes.{Appends, Consumes, IsAtEnd}
+use Rattle.std.proofs.Common.{length, ◌-◌, take, ◌≤◌}
+use Rattle.std.specs.Io.KnownBytes.{Consumes}
 use Rattle.console.proofs.read_text.Given as goal
 
 abbrev pub invariant-loop-done : goal.invariant-loop-done
