@@ -22,7 +22,7 @@ struct Class {
     from: String,
 }
 
-// At most so many ranges stand in one array: each array is built on the stack when it is reached.
+// At most so many ranges stand in one array.
 const MOST: usize = 32;
 
 fn classes() -> Vec<Class> {
@@ -83,8 +83,8 @@ fn source(class: &Class, ranges: &[Range]) -> String {
     let chunks: Vec<&[Range]> = ranges.chunks(MOST).collect();
     let mut out = String::new();
     writeln!(out, "// {}: {}. Made by tools/tables.rs.", class.what, class.from).unwrap();
-    writeln!(out, "// Each range is its first code point and the one past its last. An array is built anew wherever it is").unwrap();
-    writeln!(out, "// evaluated, so the ranges stand in arrays of at most {MOST}, and a lookup reaches one of them.").unwrap();
+    writeln!(out, "// Each range is its first code point and the one past its last. An array has at most {MOST} ranges.").unwrap();
+    writeln!(out, "// A lookup borrows the one that it reaches: a copy would cost every call its size of stack.").unwrap();
     writeln!(out, "ghost use Rattle.std.specs.Prelude.{{◌≡◌}};").unwrap();
     writeln!(out, "ghost use Rattle.characters.specs.Ranges.{{inRanges}};").unwrap();
     writeln!(out, "ghost use Rattle.characters.specs.{}.{{{}}};", class.file, class.definition).unwrap();
@@ -109,7 +109,7 @@ fn source(class: &Class, ranges: &[Range]) -> String {
             Some(next) => write!(out, "        {from:#06X}..={:#06X}", next[0].0 - 1).unwrap(),
             None => write!(out, "        _").unwrap(),
         }
-        writeln!(out, " => {{ let part = FROM_{:04X}; in_ranges(&part, c) }}", chunk[0].0).unwrap();
+        writeln!(out, " => in_ranges(&FROM_{:04X}, c),", chunk[0].0).unwrap();
     }
     writeln!(out, "    }}\n}}").unwrap();
     out

@@ -1,6 +1,6 @@
 // Alphabetic: rustc's, Unicode 17.0.0. Made by tools/tables.rs.
-// Each range is its first code point and the one past its last. An array is built anew wherever it is
-// evaluated, so the ranges stand in arrays of at most 32, and a lookup reaches one of them.
+// Each range is its first code point and the one past its last. An array has at most 32 ranges.
+// A lookup borrows the one that it reaches: a copy would cost every call its size of stack.
 ghost use Rattle.std.specs.Prelude.{◌≡◌};
 ghost use Rattle.characters.specs.Ranges.{inRanges};
 ghost use Rattle.characters.specs.Alphabetic.{alphabetic};
@@ -236,101 +236,29 @@ pub fn contains(c: u32) -> bool
     ensures { result ≡ inRanges alphabetic c }
 {
     match c {
-        0x0000..=0x05CF => {
-            let part = FROM_0041;
-            in_ranges(&part, c)
-        }
-        0x05D0..=0x098E => {
-            let part = FROM_05D0;
-            in_ranges(&part, c)
-        }
-        0x098F..=0x0A92 => {
-            let part = FROM_098F;
-            in_ranges(&part, c)
-        }
-        0x0A93..=0x0BA7 => {
-            let part = FROM_0A93;
-            in_ranges(&part, c)
-        }
-        0x0BA8..=0x0D0D => {
-            let part = FROM_0BA8;
-            in_ranges(&part, c)
-        }
-        0x0D0E..=0x0EDB => {
-            let part = FROM_0D0E;
-            in_ranges(&part, c)
-        }
-        0x0EDC..=0x137F => {
-            let part = FROM_0EDC;
-            in_ranges(&part, c)
-        }
-        0x1380..=0x1ABE => {
-            let part = FROM_1380;
-            in_ranges(&part, c)
-        }
-        0x1ABF..=0x1FBD => {
-            let part = FROM_1ABF;
-            in_ranges(&part, c)
-        }
-        0x1FBE..=0x2D2F => {
-            let part = FROM_1FBE;
-            in_ranges(&part, c)
-        }
-        0x2D30..=0xA673 => {
-            let part = FROM_2D30;
-            in_ranges(&part, c)
-        }
-        0xA674..=0xAB10 => {
-            let part = FROM_A674;
-            in_ranges(&part, c)
-        }
-        0xAB11..=0xFFD9 => {
-            let part = FROM_AB11;
-            in_ranges(&part, c)
-        }
-        0xFFDA..=0x105FF => {
-            let part = FROM_FFDA;
-            in_ranges(&part, c)
-        }
-        0x10600..=0x10B5F => {
-            let part = FROM_10600;
-            in_ranges(&part, c)
-        }
-        0x10B60..=0x111D9 => {
-            let part = FROM_10B60;
-            in_ranges(&part, c)
-        }
-        0x111DA..=0x113C6 => {
-            let part = FROM_111DA;
-            in_ranges(&part, c)
-        }
-        0x113C7..=0x1199F => {
-            let part = FROM_113C7;
-            in_ranges(&part, c)
-        }
-        0x119A0..=0x11D97 => {
-            let part = FROM_119A0;
-            in_ranges(&part, c)
-        }
-        0x11D98..=0x16FE2 => {
-            let part = FROM_11D98;
-            in_ranges(&part, c)
-        }
-        0x16FE3..=0x1D51D => {
-            let part = FROM_16FE3;
-            in_ranges(&part, c)
-        }
-        0x1D51E..=0x1E5CF => {
-            let part = FROM_1D51E;
-            in_ranges(&part, c)
-        }
-        0x1E5D0..=0x1EE5C => {
-            let part = FROM_1E5D0;
-            in_ranges(&part, c)
-        }
-        _ => {
-            let part = FROM_1EE5D;
-            in_ranges(&part, c)
-        }
+        0x0000..=0x05CF => in_ranges(&FROM_0041, c),
+        0x05D0..=0x098E => in_ranges(&FROM_05D0, c),
+        0x098F..=0x0A92 => in_ranges(&FROM_098F, c),
+        0x0A93..=0x0BA7 => in_ranges(&FROM_0A93, c),
+        0x0BA8..=0x0D0D => in_ranges(&FROM_0BA8, c),
+        0x0D0E..=0x0EDB => in_ranges(&FROM_0D0E, c),
+        0x0EDC..=0x137F => in_ranges(&FROM_0EDC, c),
+        0x1380..=0x1ABE => in_ranges(&FROM_1380, c),
+        0x1ABF..=0x1FBD => in_ranges(&FROM_1ABF, c),
+        0x1FBE..=0x2D2F => in_ranges(&FROM_1FBE, c),
+        0x2D30..=0xA673 => in_ranges(&FROM_2D30, c),
+        0xA674..=0xAB10 => in_ranges(&FROM_A674, c),
+        0xAB11..=0xFFD9 => in_ranges(&FROM_AB11, c),
+        0xFFDA..=0x105FF => in_ranges(&FROM_FFDA, c),
+        0x10600..=0x10B5F => in_ranges(&FROM_10600, c),
+        0x10B60..=0x111D9 => in_ranges(&FROM_10B60, c),
+        0x111DA..=0x113C6 => in_ranges(&FROM_111DA, c),
+        0x113C7..=0x1199F => in_ranges(&FROM_113C7, c),
+        0x119A0..=0x11D97 => in_ranges(&FROM_119A0, c),
+        0x11D98..=0x16FE2 => in_ranges(&FROM_11D98, c),
+        0x16FE3..=0x1D51D => in_ranges(&FROM_16FE3, c),
+        0x1D51E..=0x1E5CF => in_ranges(&FROM_1D51E, c),
+        0x1E5D0..=0x1EE5C => in_ranges(&FROM_1E5D0, c),
+        _ => in_ranges(&FROM_1EE5D, c),
     }
 }

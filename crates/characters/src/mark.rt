@@ -1,6 +1,6 @@
 // Marks: the categories Mn, Mc and Me: those of the crate unicode_categories 0.1.1. Made by tools/tables.rs.
-// Each range is its first code point and the one past its last. An array is built anew wherever it is
-// evaluated, so the ranges stand in arrays of at most 32, and a lookup reaches one of them.
+// Each range is its first code point and the one past its last. An array has at most 32 ranges.
+// A lookup borrows the one that it reaches: a copy would cost every call its size of stack.
 ghost use Rattle.std.specs.Prelude.{◌≡◌};
 ghost use Rattle.characters.specs.Ranges.{inRanges};
 ghost use Rattle.characters.specs.Mark.{mark};
@@ -81,37 +81,13 @@ pub fn contains(c: u32) -> bool
     ensures { result ≡ inRanges mark c }
 {
     match c {
-        0x0000..=0x09CA => {
-            let part = FROM_0300;
-            in_ranges(&part, c)
-        }
-        0x09CB..=0x0C49 => {
-            let part = FROM_09CB;
-            in_ranges(&part, c)
-        }
-        0x0C4A..=0x0F38 => {
-            let part = FROM_0C4A;
-            in_ranges(&part, c)
-        }
-        0x0F39..=0x1AFF => {
-            let part = FROM_0F39;
-            in_ranges(&part, c)
-        }
-        0x1B00..=0xA946 => {
-            let part = FROM_1B00;
-            in_ranges(&part, c)
-        }
-        0xA947..=0x110AF => {
-            let part = FROM_A947;
-            in_ranges(&part, c)
-        }
-        0x110B0..=0x1D17A => {
-            let part = FROM_110B0;
-            in_ranges(&part, c)
-        }
-        _ => {
-            let part = FROM_1D17B;
-            in_ranges(&part, c)
-        }
+        0x0000..=0x09CA => in_ranges(&FROM_0300, c),
+        0x09CB..=0x0C49 => in_ranges(&FROM_09CB, c),
+        0x0C4A..=0x0F38 => in_ranges(&FROM_0C4A, c),
+        0x0F39..=0x1AFF => in_ranges(&FROM_0F39, c),
+        0x1B00..=0xA946 => in_ranges(&FROM_1B00, c),
+        0xA947..=0x110AF => in_ranges(&FROM_A947, c),
+        0x110B0..=0x1D17A => in_ranges(&FROM_110B0, c),
+        _ => in_ranges(&FROM_1D17B, c),
     }
 }

@@ -1,6 +1,6 @@
 // Numeric: the categories Nd, Nl and No: rustc's, Unicode 17.0.0. Made by tools/tables.rs.
-// Each range is its first code point and the one past its last. An array is built anew wherever it is
-// evaluated, so the ranges stand in arrays of at most 32, and a lookup reaches one of them.
+// Each range is its first code point and the one past its last. An array has at most 32 ranges.
+// A lookup borrows the one that it reaches: a copy would cost every call its size of stack.
 ghost use Rattle.std.specs.Prelude.{◌≡◌};
 ghost use Rattle.characters.specs.Ranges.{inRanges};
 ghost use Rattle.characters.specs.Numeric.{numeric};
@@ -56,25 +56,10 @@ pub fn contains(c: u32) -> bool
     ensures { result ≡ inRanges numeric c }
 {
     match c {
-        0x0000..=0x19CF => {
-            let part = FROM_0030;
-            in_ranges(&part, c)
-        }
-        0x19D0..=0xAA4F => {
-            let part = FROM_19D0;
-            in_ranges(&part, c)
-        }
-        0xAA50..=0x10F50 => {
-            let part = FROM_AA50;
-            in_ranges(&part, c)
-        }
-        0x10F51..=0x1CCEF => {
-            let part = FROM_10F51;
-            in_ranges(&part, c)
-        }
-        _ => {
-            let part = FROM_1CCF0;
-            in_ranges(&part, c)
-        }
+        0x0000..=0x19CF => in_ranges(&FROM_0030, c),
+        0x19D0..=0xAA4F => in_ranges(&FROM_19D0, c),
+        0xAA50..=0x10F50 => in_ranges(&FROM_AA50, c),
+        0x10F51..=0x1CCEF => in_ranges(&FROM_10F51, c),
+        _ => in_ranges(&FROM_1CCF0, c),
     }
 }

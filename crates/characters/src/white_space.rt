@@ -1,6 +1,6 @@
 // White_Space: rustc's, Unicode 17.0.0. Made by tools/tables.rs.
-// Each range is its first code point and the one past its last. An array is built anew wherever it is
-// evaluated, so the ranges stand in arrays of at most 32, and a lookup reaches one of them.
+// Each range is its first code point and the one past its last. An array has at most 32 ranges.
+// A lookup borrows the one that it reaches: a copy would cost every call its size of stack.
 ghost use Rattle.std.specs.Prelude.{◌≡◌};
 ghost use Rattle.characters.specs.Ranges.{inRanges};
 ghost use Rattle.characters.specs.WhiteSpace.{whiteSpace};
