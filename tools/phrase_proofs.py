@@ -96,17 +96,17 @@ use mathlib.Core.List.{{List, [], ◌∷◌}}
 use mathlib.Core.Path.{{ap, refl, ◌∙◌}}
 use borrow.Author.Rules.{{rules}}
 use Rattle.recognisers.specs.Taking.{{contains}}
-{USE_LISTS}use Rattle.reserved.specs.Inner.Entries.{{length_of, group_of, grouped, entries}}
-use Rattle.reserved.proofs.FirstEntry.{{letter-is, none_is, empty-length, empty_group}}
+{USE_LISTS}use Rattle.reserved.specs.Inner.Entries.{{lengthOf, groupOf, grouped, entries}}
+use Rattle.reserved.proofs.FirstEntry.{{letter-is, none-is, empty-length, empty-group}}
 use Rattle.reserved.proofs.tables.find_phrase.Goals as goal
 """
 
-NO_TEXT = ("empty-length _ c.if-rest-eq0.true", "empty_group _ c.if-rest-eq0.true _")
+NO_TEXT = ("empty-length _ c.if-rest-eq0.true", "empty-group _ c.if-rest-eq0.true _")
 
 BY_LETTER = "(letter-is _ _ c.capital_of-letter.ensures LETTER c.in-LETTER.is)"
 FOUND_BY_LETTER = (
-    f"c.find_NAME.ensures.value ∙ ap length_of {BY_LETTER}",
-    f"c.find_NAME.ensures.found_after ∙ ap (group_of _) {BY_LETTER}",
+    f"c.find_NAME.ensures.value ∙ ap lengthOf {BY_LETTER}",
+    f"c.find_NAME.ensures.found_after ∙ ap (groupOf _) {BY_LETTER}",
 )
 
 LETTERS = """
@@ -114,8 +114,8 @@ letters : List ℕ
 letters = NUMBERS
 """
 
-NO_LETTER = "(none_is _ _ c.capital_of-letter.ensures letters refl (search rules))"
-FOUND_BY_NO_LETTER = (f"ap length_of {NO_LETTER}", f"ap (group_of _) {NO_LETTER}")
+NO_LETTER = "(none-is _ _ c.capital_of-letter.ensures letters refl (search rules))"
+FOUND_BY_NO_LETTER = (f"ap lengthOf {NO_LETTER}", f"ap (groupOf _) {NO_LETTER}")
 UNFOLDING_NO_LETTER = f"letters contains {LISTS}"
 
 

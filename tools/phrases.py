@@ -129,7 +129,7 @@ TABLES_HEAD = """\
 // One decision on the first letter and one on the first word's length pick the table in which a phrase is looked for. Made by
 // tools/phrases.py from the lists in specs/.
 ghost use Rattle.std.specs.Prelude.{◌≡◌};
-ghost use Rattle.reserved.specs.Inner.Entries.{length_of, group_of, entries, entriesOf, findEntry};
+ghost use Rattle.reserved.specs.Inner.Entries.{lengthOf, groupOf, entries, entriesOf, findEntry};
 ghost use Rattle.recognisers.specs.Inner.WordLength.{wordLength};
 
 use crate::find::find_in;
@@ -140,8 +140,8 @@ use recognisers::capital_of;
 OF_A_LETTER = """
 fn find_NAME(rest: &[u8], n: usize, found: &mut u8) -> usize
     requires { n ≡ wordLength rest.now }
-    ensures value { result ≡ length_of (findEntry (entriesOf LETTER entries) rest.now) }
-    ensures found_after { found.new ≡ group_of found.old (findEntry (entriesOf LETTER entries) rest.now) }
+    ensures value { result ≡ lengthOf (findEntry (entriesOf LETTER entries) rest.now) }
+    ensures found_after { found.new ≡ groupOf found.old (findEntry (entriesOf LETTER entries) rest.now) }
 {
     match n {
 ARMS        _ => 0,
@@ -153,8 +153,8 @@ OF_ALL = """
 // The first phrase that stands at the start of the rest: how many bytes it takes, or 0. Its group's letter is written to `found`.
 pub fn find_phrase(rest: &[u8], n: usize, found: &mut u8) -> usize
     requires { n ≡ wordLength rest.now }
-    ensures value { result ≡ length_of (findEntry entries rest.now) }
-    ensures found_after { found.new ≡ group_of found.old (findEntry entries rest.now) }
+    ensures value { result ≡ lengthOf (findEntry entries rest.now) }
+    ensures found_after { found.new ≡ groupOf found.old (findEntry entries rest.now) }
 {
     if rest.len() == 0 {
         return 0;

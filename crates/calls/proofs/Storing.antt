@@ -34,12 +34,12 @@ module _ (start len : ℕ) where
   pub back : start + len - start ≡ len
   back = omega arith
 
-  pub part_length : (source : List ℕ) → start + len ≤ length source → length (take len (drop start source)) ≡ len
-  part_length source h = length-take-le len (drop start source) (rw length-drop (omega arith))
+  pub part-length : (source : List ℕ) → start + len ≤ length source → length (take len (drop start source)) ≡ len
+  part-length source h = length-take-le len (drop start source) (rw length-drop (omega arith))
 
   module _ (source output : List ℕ) (at : ℕ) where
-    pub part_room : start + len ≤ length source → at + len ≤ length output → at + length (take (start + len - start) (drop start source)) ≤ length output
-    part_room h k = rw (back, part_length source h) k
+    pub part-room : start + len ≤ length source → at + len ≤ length output → at + length (take (start + len - start) (drop start source)) ≤ length output
+    part-room h k = rw (back, part-length source h) k
 
     pub part-put : (after : List ℕ) → after ≡ sets output at (take (start + len - start) (drop start source)) → after ≡ sets output at (take len (drop start source))
     part-put after e = e ∙ rw back

@@ -98,10 +98,10 @@ module _ (text : Settings → List ℕ) where
   call-inside room n (C.Accepted settings) e = text-inside (text settings) room n e
   call-inside room n (C.Refused refusal) e = let h : ◌≡◌ {A = ℕ} 0 1 = cc in absurd (let z : ⊥ = omega arith in z)
 
-  call_long : (output : List ℕ) (c : Checked) → length (callOutput text output c) ≡ length output
+  call-long : (output : List ℕ) (c : Checked) → length (callOutput text output c) ≡ length output
   unfolding callOutput
-  call_long output (C.Accepted settings) = text-long (text settings) output
-  call_long output (C.Refused refusal) = refl
+  call-long output (C.Accepted settings) = text-long (text settings) output
+  call-long output (C.Refused refusal) = refl
 
   pub call-written : (output : List ℕ) (c : Checked) (n : ℕ) → callAnswer text (length output) c ≡ Written n → n ≤ length (callOutput text output c)
-  call-written output c n e = rw call_long (call-inside (length output) n c e)
+  call-written output c n e = rw call-long (call-inside (length output) n c e)

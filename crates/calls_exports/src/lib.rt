@@ -5,7 +5,7 @@
 ghost use Rattle.std.specs.Prelude.{◌≡◌};
 ghost use Rattle.calls.specs.Texts.{textAfter};
 ghost use Rattle.params.specs.Answers.{lookupPart, lookupBytes, lookupCounter, lookupNumber, lookupDetail};
-ghost use Rattle.calls_exports.specs.Places.{source_of, start_of};
+ghost use Rattle.calls_exports.specs.Places.{sourceOf, startOf};
 
 use calls::put_bytes;
 use params::{Part, lookup, lookup_part};
@@ -55,8 +55,8 @@ pub extern "C" fn calls_lookup_place(
     ensures counter_after { counter.new ≡ lookupCounter statement.now dialect joins named sheet.now place counter.old }
     ensures number_after { number.new ≡ lookupNumber statement.now dialect joins named sheet.now }
     ensures detail_after { detail.new ≡ lookupDetail statement.now dialect joins named sheet.now place counter.old }
-    ensures source_after { source.new ≡ source_of (lookupPart statement.now dialect joins named sheet.now place counter.old) }
-    ensures start_after { start.new ≡ start_of (lookupPart statement.now dialect joins named sheet.now place counter.old) }
+    ensures source_after { source.new ≡ sourceOf (lookupPart statement.now dialect joins named sheet.now place counter.old) }
+    ensures start_after { start.new ≡ startOf (lookupPart statement.now dialect joins named sheet.now place counter.old) }
 {
     let part = lookup_part(
         statement, dialect, joins, named, sheet, place, counter, number, detail,

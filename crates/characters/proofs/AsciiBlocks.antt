@@ -22,10 +22,10 @@ regroup true true false d = refl
 regroup true false c d = refl
 regroup false b c d = refl
 
-pub four_are : (s : List ℕ) (i : ℕ) → i + 4 ≤ length s
+pub four-are : (s : List ℕ) (i : ℕ) → i + 4 ≤ length s
     → (ltb (get_or s i 0) 0x80 && ltb (get_or s (i + 1) 0) 0x80 && ltb (get_or s (i + 2) 0) 0x80 && ltb (get_or s (i + 3) 0) 0x80) ≡ allAscii 4 (drop i s)
 unfolding allAscii
-four_are s i h =
+four-are s i h =
     let h₀ : i < length s = omega arith in
     let h₁ : suc i < length s = omega arith in
     let h₂ : suc (suc i) < length s = omega arith in

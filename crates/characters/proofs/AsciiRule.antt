@@ -15,7 +15,7 @@ use Rattle.characters.specs.Mark.{mark}
 use Rattle.characters.specs.Connector.{connector}
 use Rattle.characters.specs.Classes.{isWhitespace, isAlphabetic, isNumeric, isMark, isPunctuationConnector, isAlphanumeric, isWordCharacter, isPlaceholderNameCharacter}
 use Rattle.characters.specs.Ascii.{isLetter, isSpace, asciiKind, isAsciiWord}
-use Rattle.characters.proofs.Below.{all_below, below}
+use Rattle.characters.proofs.Below.{allBelow, below}
 use Rattle.characters.proofs.Within.{above-not}
 
 -- ---- the computed test
@@ -34,7 +34,7 @@ agrees c =
     && (beq (eqb (asciiKind c) 3) (isNumeric c)
     && (beq (eqb (asciiKind c) 4) (isPunctuationConnector c) && beq false (isMark c))))
 
-pub ascii-by-rule : all_below agrees 128 ≡ true
+pub ascii-by-rule : allBelow agrees 128 ≡ true
 unfolding asciiKind isLetter isSpace isWhitespace isAlphabetic isNumeric isMark isPunctuationConnector inRanges within whiteSpace alphabetic numeric mark connector
 ascii-by-rule = refl
 
@@ -137,7 +137,7 @@ module _ (c : ℕ) (h : c < 128) where
 -- ---- of every byte: an ASCII character of a class
 
 -- letters, digits and the underscore are no whitespace
-space-apart : all_below (λ c. beq (isSpace c) (eqb (asciiKind c) 1)) 128 ≡ true
+space-apart : allBelow (λ c. beq (isSpace c) (eqb (asciiKind c) 1)) 128 ≡ true
 unfolding asciiKind isLetter isSpace within
 space-apart = refl
 
@@ -162,8 +162,8 @@ space-byte c = go (ltb c 128) refl
         ∙ ascii-whitespace c (ltb-true c 128 e) (asciiKind c) refl
     go false e = no-space c (ltb-false c 128 e)
 
-pub word_byte : (c : ℕ) → isAsciiWord c ≡ (ltb c 128 && isWordCharacter c)
-word_byte c = go (ltb c 128) refl
+pub word-byte : (c : ℕ) → isAsciiWord c ≡ (ltb c 128 && isWordCharacter c)
+word-byte c = go (ltb c 128) refl
   where
     go : (t : Bool) → ltb c 128 ≡ t → isAsciiWord c ≡ (t && isWordCharacter c)
     go true e = word-kind c ∙ ascii-word c (ltb-true c 128 e) (asciiKind c) refl

@@ -15,7 +15,7 @@ use Rattle.characters.specs.Mark.{mark}
 use Rattle.characters.specs.Connector.{connector}
 use Rattle.characters.specs.Classes.{isWhitespace, isAlphabetic, isNumeric, isMark, isPunctuationConnector, isAlphanumeric, isWordCharacter, isPlaceholderNameCharacter}
 use Rattle.characters.specs.Character.{codePoint}
-use Rattle.characters.proofs.Within.{within_low, within-high, within-is, below-not, above-not}
+use Rattle.characters.proofs.Within.{within-low, within-high, within-is, below-not, above-not}
 
 -- ---- ranges apart from ranges
 
@@ -35,7 +35,7 @@ outside range (other ∷ others) c a e =
     rw (outside range others c a₂.1 e, go (ltb range.1 other.0) (ltb other.1 range.0) refl refl a₂.0)
   where
     low : range.0 ≤ c
-    low = within_low range.0 range.1 c e
+    low = within-low range.0 range.1 c e
 
     high : c ≤ range.1
     high = within-high range.0 range.1 c e
@@ -94,13 +94,13 @@ module _ (c : ℕ) (e : isWhitespace c ≡ true) where
   unfolding isWhitespace isWordCharacter isMark isPunctuationConnector
   white-no-word = rw (no-alphanumeric, all-outside whiteSpace mark c mark-apart e, all-outside whiteSpace connector c connector-apart e)
 
-  no_sign : (n : ℕ) → isWhitespace n ≡ false → eqb c n ≡ false
-  no_sign n f = ne_eqb c n (λ q. false≢true (sym f ∙ (rw q at e)))
+  no-sign : (n : ℕ) → isWhitespace n ≡ false → eqb c n ≡ false
+  no-sign n f = ne_eqb c n (λ q. false≢true (sym f ∙ (rw q at e)))
 
   pub white-no-name : isPlaceholderNameCharacter c ≡ false
   unfolding isPlaceholderNameCharacter
   white-no-name =
-      rw (no-alphanumeric, no_sign 0x2E (visible-not-white 0x2E (omega arith) (omega arith)), no_sign 0x5F (visible-not-white 0x5F (omega arith) (omega arith)), no_sign 0x24 (visible-not-white 0x24 (omega arith) (omega arith)))
+      rw (no-alphanumeric, no-sign 0x2E (visible-not-white 0x2E (omega arith) (omega arith)), no-sign 0x5F (visible-not-white 0x5F (omega arith) (omega arith)), no-sign 0x24 (visible-not-white 0x24 (omega arith) (omega arith)))
 
 pub space-white : isWhitespace 0x20 ≡ true
 unfolding isWhitespace inRanges within whiteSpace
@@ -134,6 +134,6 @@ pub capital-word : (c : ℕ) → within 0x41 0x5A c ≡ true → isWordCharacter
 unfolding isWordCharacter isAlphanumeric isAlphabetic inRanges alphabetic
 capital-word c e = rw e
 
-pub small_word : (c : ℕ) → within 0x61 0x7A c ≡ true → isWordCharacter c ≡ true
+pub small-word : (c : ℕ) → within 0x61 0x7A c ≡ true → isWordCharacter c ≡ true
 unfolding isWordCharacter isAlphanumeric isAlphabetic inRanges alphabetic
-small_word c e = rw (above-not 0x41 0x5A c (let l = within_low 0x61 0x7A c e in omega arith), e)
+small-word c e = rw (above-not 0x41 0x5A c (let l = within-low 0x61 0x7A c e in omega arith), e)

@@ -11,7 +11,7 @@ use Rattle.characters.specs.Ranges.{within, inRanges}
 use Rattle.characters.specs.Alphabetic.{alphabetic}
 use Rattle.characters.specs.Classes.{isAlphabetic}
 use Rattle.characters.specs.Inner.CommonLetters.{westernLetters, easternLetters}
-use Rattle.characters.proofs.Within.{within_low, within-high, within-is}
+use Rattle.characters.proofs.Within.{within-low, within-high, within-is}
 
 -- one of the ranges has all from first to last
 abbrev covers : List (ℕ × ℕ) → ℕ → ℕ → Bool
@@ -32,7 +32,7 @@ covered (range ∷ ranges) first last c e w = go (leb range.0 first && leb last 
         → (within range.0 range.1 c || inRanges ranges c) ≡ true
     go true q f ih =
         let both = (and-eq-true_iff (leb range.0 first) (leb last range.1)).0 q in
-        rw (within-is range.0 range.1 c (le_trans (leb-true range.0 first both.0) (within_low first last c w)) (le_trans (within-high first last c w) (leb-true last range.1 both.1)))
+        rw (within-is range.0 range.1 c (le_trans (leb-true range.0 first both.0) (within-low first last c w)) (le_trans (within-high first last c w) (leb-true last range.1 both.1)))
     go false q f ih = rw (ih f w) (or-true (within range.0 range.1 c))
 
 all-covered : (ranges parts : List (ℕ × ℕ)) (c : ℕ) → coversAll ranges parts ≡ true → inRanges parts c ≡ true → inRanges ranges c ≡ true

@@ -14,16 +14,16 @@ use mir.Syntax.{w8, w32}
 use mir.Val.{Fits}
 use borrow.Author.Tests.{eq-eqb, ne_eqb, ltb-true}
 use Rattle.characters.specs.declared.Character.{Character}
-use Rattle.characters.specs.Character.{isContinuation, continuations, continued, firstBits, with_bits, codePoint, characterLength, character}
+use Rattle.characters.specs.Character.{isContinuation, continuations, continued, firstBits, withBits, codePoint, characterLength, character}
 
-with-bits-last : (value : ℕ) (l : List ℕ) (b : ℕ) → with_bits value (l ++ (b ∷ [])) ≡ with_bits value l * 64 + b % 64
-unfolding with_bits
+with-bits-last : (value : ℕ) (l : List ℕ) (b : ℕ) → withBits value (l ++ (b ∷ [])) ≡ withBits value l * 64 + b % 64
+unfolding withBits
 with-bits-last value [] b = refl
 with-bits-last value (a ∷ l) b = with-bits-last (value * 64 + a % 64) l b
 
-first_small : (b : ℕ) → b < 256 → firstBits b < 128
+first-small : (b : ℕ) → b < 256 → firstBits b < 128
 unfolding firstBits
-first_small b h = go (ltb b 0x80) (ltb b 0xC0) (ltb b 0xE0) (ltb b 0xF0) refl refl refl refl
+first-small b h = go (ltb b 0x80) (ltb b 0xC0) (ltb b 0xE0) (ltb b 0xF0) refl refl refl refl
   where
     go : (t u v w : Bool) → ltb b 0x80 ≡ t → ltb b 0xC0 ≡ u → ltb b 0xE0 ≡ v → ltb b 0xF0 ≡ w
         → cond (ltb b 0x80) b (cond (ltb b 0xC0) 0 (cond (ltb b 0xE0) (b - 0xC0) (cond (ltb b 0xF0) (b - 0xE0) (b - 0xF0)))) < 128
@@ -61,7 +61,7 @@ broken (b ∷ t) wanted i e o g h =
 
 -- all of them follow
 whole : (s : List ℕ) (wanted value : ℕ) → wanted ≡ continuations (get_or s 0 0) → 0 < length s → continued wanted (drop 1 s) ≡ wanted
-    → value ≡ with_bits (firstBits (get_or s 0 0)) (take wanted (drop 1 s)) → ◌≡◌ {A = Character} (record { code_point = value; len = wanted + 1 }) (character s)
+    → value ≡ withBits (firstBits (get_or s 0 0)) (take wanted (drop 1 s)) → ◌≡◌ {A = Character} (record { code_point = value; len = wanted + 1 }) (character s)
 unfolding codePoint characterLength
 whole [] wanted value e o g v = absurd (not-suc-le-zero o)
 whole (b ∷ t) wanted value e o g v =
@@ -78,17 +78,17 @@ pub record DecodeAt (s : List ℕ) (wanted value i : ℕ) : Type 0 where
   pub there : i < length s
   pub small : value < 128 * 64 ^ i
   pub got : continued wanted (drop 1 s) ≡ i + continued (wanted - i) (drop (suc i) s)
-  pub value-is : value ≡ with_bits (firstBits (get_or s 0 0)) (take i (drop 1 s))
+  pub value-is : value ≡ withBits (firstBits (get_or s 0 0)) (take i (drop 1 s))
 
 module _ (s : List ℕ) (wanted : ℕ) where
   pub decode-start : (value : ℕ) → ((k : ℕ) → Fits w8 (get_or s k 0)) → 0 < length s → wanted ≡ continuations (get_or s 0 0) → value ≡ firstBits (get_or s 0 0) → DecodeAt s wanted value 0
-  unfolding with_bits
+  unfolding withBits
   decode-start value f h e v =
       record {
         calls = e;
         inside = zero-le;
         there = h;
-        small = rw v (let b = first_small (get_or s 0 0) (f 0).fits in omega arith);
+        small = rw v (let b = first-small (get_or s 0 0) (f 0).fits in omega arith);
         got = let w : wanted - 0 ≡ wanted = omega arith in rw w (sym (zero-add (continued wanted (drop 1 s))));
         value-is = v;
       }

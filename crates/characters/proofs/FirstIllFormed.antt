@@ -17,7 +17,7 @@ use Rattle.characters.specs.Ranges.{within}
 use Rattle.characters.specs.Inner.Blocks.{asciiRun}
 use Rattle.characters.specs.Utf8.{table-3-7, fitsRow, sequenceIn, sequenceLength, wellFormedFrom, firstIllFormed}
 use Rattle.characters.proofs.SequenceRows.{Rows}
-use Rattle.characters.proofs.Rests.{part_end}
+use Rattle.characters.proofs.Rests.{part-end}
 
 -- ---- the sequence lies inside
 
@@ -41,10 +41,10 @@ pub sequence-inside : (s : List ℕ) → sequenceLength s ≤ length s
 unfolding sequenceLength
 sequence-inside s = in-inside table-3-7 s
 
-pub run_inside : (s : List ℕ) → asciiRun s ≤ length s
+pub run-inside : (s : List ℕ) → asciiRun s ≤ length s
 unfolding asciiRun
-run_inside [] = zero-le
-run_inside (b ∷ s) = go (ltb b 0x80) (run_inside s)
+run-inside [] = zero-le
+run-inside (b ∷ s) = go (ltb b 0x80) (run-inside s)
   where
     go : (t : Bool) → asciiRun s ≤ length s → cond t (suc (asciiRun s)) 0 ≤ suc (length s)
     go true h = suc-le-suc h
@@ -99,15 +99,15 @@ pub valid-start : (s : List ℕ) → ValidAt s 0
 valid-start s = record { inside = zero-le; same = sym (zero-add (wellFormedFrom 0 s)) }
 
 module _ (s : List ℕ) (at r : ℕ) (v : ValidAt s at) (e : r ≡ asciiRun (take (length s - at) (drop at s))) where
-  run_is : r ≡ asciiRun (drop at s)
-  run_is = rw (part_end s at) at e
+  run-is : r ≡ asciiRun (drop at s)
+  run-is = rw (part-end s at) at e
 
   ascii-inside : at + r ≤ length s
   ascii-inside =
-      let h = run_inside (drop at s) in
+      let h = run-inside (drop at s) in
       let l = length-drop at s in
       let i = v.inside in
-      omega (arith, run_is)
+      omega (arith, run-is)
 
   pub ascii-fits : length s < 2 ^ 64 → Fits w64 (at + r)
   ascii-fits f = record { fits = omega (arith, ascii-inside) }
@@ -117,21 +117,21 @@ module _ (s : List ℕ) (at r : ℕ) (v : ValidAt s at) (e : r ≡ asciiRun (tak
       record {
         inside = ascii-inside;
         same = v.same
-            ∙ rw (ascii-pass (drop at s), ← run_is, drop-drop r at s) (sym (add_assoc at r (wellFormedFrom 0 (drop (at + r) s))));
+            ∙ rw (ascii-pass (drop at s), ← run-is, drop-drop r at s) (sym (add_assoc at r (wellFormedFrom 0 (drop (at + r) s))));
       }
 
   module _ (n : ℕ) (h : at + r < length s) (d : n ≡ sequenceLength (take (length s - (at + r)) (drop (at + r) s))) where
     length-is : n ≡ sequenceLength (drop (at + r) s)
-    length-is = rw (part_end s (at + r)) at d
+    length-is = rw (part-end s (at + r)) at d
 
-    within_text : at + r + n ≤ length s
-    within_text =
+    within-text : at + r + n ≤ length s
+    within-text =
         let i = sequence-inside (drop (at + r) s) in
         let l = length-drop (at + r) s in
         omega (arith, length-is)
 
     pub sequence-fits : length s < 2 ^ 64 → Fits w64 (at + r + n)
-    sequence-fits f = record { fits = omega (arith, within_text) }
+    sequence-fits f = record { fits = omega (arith, within-text) }
 
     pub valid-sequence : (n ≡ 0 → ⊥) → ValidAt s (at + r + n)
     valid-sequence z = go n refl
@@ -140,7 +140,7 @@ module _ (s : List ℕ) (at r : ℕ) (v : ValidAt s at) (e : r ≡ asciiRun (tak
         go zero q = absurd (z q)
         go (suc m) q =
             record {
-              inside = within_text;
+              inside = within-text;
               same = valid-ascii.same
                   ∙ rw (step (drop (at + r) s) m (sym length-is ∙ q), drop-drop (suc m) (at + r) s, ← q) (sym (add_assoc (at + r) n (wellFormedFrom 0 (drop (at + r + n) s))));
             }

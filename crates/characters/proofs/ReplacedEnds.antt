@@ -48,16 +48,16 @@ row-alike (range ∷ row) b x x' c e =
     go true false f g l h = refl
     go false u f g l h = refl
 
-rows_alike : (rows : Rows) (b : ℕ) (x x' : List ℕ) → allCalled rows ≡ true → take (continuations b) x ≡ take (continuations b) x' → sequenceIn rows (b ∷ x) ≡ sequenceIn rows (b ∷ x')
+rows-alike : (rows : Rows) (b : ℕ) (x x' : List ℕ) → allCalled rows ≡ true → take (continuations b) x ≡ take (continuations b) x' → sequenceIn rows (b ∷ x) ≡ sequenceIn rows (b ∷ x')
 unfolding sequenceIn
-rows_alike [] b x x' c e = refl
-rows_alike (row ∷ rows) b x x' c e =
+rows-alike [] b x x' c e = refl
+rows-alike (row ∷ rows) b x x' c e =
     let k = (and-eq-true_iff (called row) (allCalled rows)).0 c in
-    rw (row-alike row b x x' k.0 e, rows_alike rows b x x' k.1 e)
+    rw (row-alike row b x x' k.0 e, rows-alike rows b x x' k.1 e)
 
 sequence-alike : (b : ℕ) (x x' : List ℕ) → take (continuations b) x ≡ take (continuations b) x' → sequenceLength (b ∷ x) ≡ sequenceLength (b ∷ x')
 unfolding sequenceLength
-sequence-alike b x x' e = rows_alike table-3-7 b x x' table-called e
+sequence-alike b x x' e = rows-alike table-3-7 b x x' table-called e
 
 -- ---- a well-formed text begins with no continuation byte
 

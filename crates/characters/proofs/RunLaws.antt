@@ -13,7 +13,7 @@ use mir.Val.{Fits}
 use lib.Dec.{ltb}
 use borrow.Author.Tests.{lt-ltb, ltb-true}
 use Rattle.characters.specs.declared.Character.{Character}
-use Rattle.characters.specs.Character.{isContinuation, continuations, continued, firstBits, with_bits, codePoint, characterLength, character}
+use Rattle.characters.specs.Character.{isContinuation, continuations, continued, firstBits, withBits, codePoint, characterLength, character}
 use Rattle.characters.specs.declared.Class.{Class}
 use Rattle.characters.specs.Runs.{inClass, run}
 use Rattle.characters.specs.Inner.RunAt.{RunAt}
@@ -45,17 +45,17 @@ module _ (class : Class) where
   run-pass (suc n) [] h = absurd (not-suc-le-zero h)
   run-pass (suc n) (b ∷ s) h = ap suc (run-pass n s (le_of_suc-le-suc h)) ∙ sym (suc-add n (run (inClass class) 0 (drop n s)))
 
-  pub run_step : (s : List ℕ) → 0 < length s → run (inClass class) 0 s ≡ cond (inClass class (codePoint s)) (characterLength s + run (inClass class) 0 (drop (characterLength s) s)) 0
+  pub run-step : (s : List ℕ) → 0 < length s → run (inClass class) 0 s ≡ cond (inClass class (codePoint s)) (characterLength s + run (inClass class) 0 (drop (characterLength s) s)) 0
   unfolding run characterLength
-  run_step [] h = absurd (not-suc-le-zero h)
-  run_step (b ∷ s) h =
+  run-step [] h = absurd (not-suc-le-zero h)
+  run-step (b ∷ s) h =
       rw (run-pass (continued (continuations b) s) s (continued-inside (continuations b) s), suc-add (continued (continuations b) s) (run (inClass class) 0 (drop (continued (continuations b) s) s)))
 
-  pub run_inside : (passed : ℕ) (s : List ℕ) → run (inClass class) passed s ≤ length s
+  pub run-inside : (passed : ℕ) (s : List ℕ) → run (inClass class) passed s ≤ length s
   unfolding run
-  run_inside passed [] = zero-le
-  run_inside (suc passed) (b ∷ s) = suc-le-suc (run_inside passed s)
-  run_inside zero (b ∷ s) = go (inClass class (codePoint (b ∷ s))) (run_inside (continued (continuations b) s) s)
+  run-inside passed [] = zero-le
+  run-inside (suc passed) (b ∷ s) = suc-le-suc (run-inside passed s)
+  run-inside zero (b ∷ s) = go (inClass class (codePoint (b ∷ s))) (run-inside (continued (continuations b) s) s)
     where
       go : (t : Bool) → run (inClass class) (continued (continuations b) s) s ≤ length s → cond t (suc (run (inClass class) (continued (continuations b) s) s)) 0 ≤ suc (length s)
       go true h = suc-le-suc h
@@ -67,7 +67,7 @@ module _ (class : Class) where
     where
       go : (t : Bool) → inClass class (codePoint s) ≡ t → inClass class (codePoint s) ≡ false
       go true q =
-          let r = run_step s o in
+          let r = run-step s o in
           let v : run (inClass class) 0 s ≡ characterLength s + run (inClass class) 0 (drop (characterLength s) s) = r ∙ rw q in
           absurd (let k = character-some s o in let z : ⊥ = omega arith in z)
       go false q = q
@@ -87,29 +87,29 @@ module _ (class : Class) where
   run-start s = record { inside = zero-le; same = sym (zero-add (run (inClass class) 0 s)) }
 
   module _ (s : List ℕ) (i n : ℕ) (at : RunAt class s i) (h : i < length s) (e : n ≡ cond (inClass class (codePoint (drop i s))) (characterLength (drop i s)) 0) where
-    some_left : 0 < length (drop i s)
-    some_left = rw length-drop (omega arith)
+    some-left : 0 < length (drop i s)
+    some-left = rw length-drop (omega arith)
 
-    at_most : n ≤ length (drop i s)
-    at_most = go (inClass class (codePoint (drop i s))) refl
+    at-most : n ≤ length (drop i s)
+    at-most = go (inClass class (codePoint (drop i s))) refl
       where
         go : (t : Bool) → inClass class (codePoint (drop i s)) ≡ t → n ≤ length (drop i s)
         go true q = rw (e, q) (character-inside (drop i s))
         go false q = rw (e, q) zero-le
 
-    pub run_fits : length s < 2 ^ 64 → Fits w64 (i + n)
-    run_fits f = record { fits = let m = at_most in omega (arith, length-drop i s) }
+    pub run-fits : length s < 2 ^ 64 → Fits w64 (i + n)
+    run-fits f = record { fits = let m = at-most in omega (arith, length-drop i s) }
 
-    pub run_more : (n ≡ 0 → ⊥) → RunAt class s (i + n)
-    run_more z = go (inClass class (codePoint (drop i s))) refl
+    pub run-more : (n ≡ 0 → ⊥) → RunAt class s (i + n)
+    run-more z = go (inClass class (codePoint (drop i s))) refl
       where
         go : (t : Bool) → inClass class (codePoint (drop i s)) ≡ t → RunAt class s (i + n)
         go true q =
-            let m = at_most in
+            let m = at-most in
             let n-is : n ≡ characterLength (drop i s) = rw q at e in
             record {
               inside = omega (arith, length-drop i s);
-              same = at.same ∙ rw (run_step (drop i s) some_left, q, ← n-is, drop-drop n i s) (sym (add_assoc i n (run (inClass class) 0 (drop (i + n) s))));
+              same = at.same ∙ rw (run-step (drop i s) some-left, q, ← n-is, drop-drop n i s) (sym (add_assoc i n (run (inClass class) 0 (drop (i + n) s))));
             }
         go false q = absurd (z (rw q at e))
 
@@ -119,12 +119,12 @@ module _ (class : Class) where
         go : (t : Bool) → inClass class (codePoint (drop i s)) ≡ t → i ≡ run (inClass class) 0 s
         go true q =
             let n-is : n ≡ characterLength (drop i s) = rw q at e in
-            absurd (let o = character-some (drop i s) some_left in let y : ⊥ = omega arith in y)
-        go false q = sym (at.same ∙ rw (run_step (drop i s) some_left, q) (add-zero i))
+            absurd (let o = character-some (drop i s) some-left in let y : ⊥ = omega arith in y)
+        go false q = sym (at.same ∙ rw (run-step (drop i s) some-left, q) (add-zero i))
 
-  pub run_end : (s : List ℕ) (i : ℕ) → RunAt class s i → length s ≤ i → i ≡ run (inClass class) 0 s
+  pub run-end : (s : List ℕ) (i : ℕ) → RunAt class s i → length s ≤ i → i ≡ run (inClass class) 0 s
   unfolding run
-  run_end s i at h = sym (at.same ∙ rw (drop_of_length-le s h) (add-zero i))
+  run-end s i at h = sym (at.same ∙ rw (drop_of_length-le s h) (add-zero i))
 
 -- ---- an ASCII character
 
@@ -133,7 +133,7 @@ unfolding characterLength continuations continued
 ascii-length s i h l = rw (drop-cons s i 0 h, lt-ltb (get_or s i 0) 0xC0 (omega arith))
 
 pub ascii-code : (s : List ℕ) (i : ℕ) → i < length s → get_or s i 0 < 128 → codePoint (drop i s) ≡ get_or s i 0
-unfolding codePoint continuations continued firstBits with_bits
+unfolding codePoint continuations continued firstBits withBits
 ascii-code s i h l = rw (drop-cons s i 0 h, lt-ltb (get_or s i 0) 0xC0 (omega arith), lt-ltb (get_or s i 0) 0x80 l)
 
 pub ascii-first : (b : ℕ) (s : List ℕ) → b < 128 → codePoint (b ∷ s) ≡ b
@@ -153,8 +153,8 @@ module _ (class : Class) (s : List ℕ) (i : ℕ) (h : i < length s) where
         let no : inClass class (get_or s i 0) ≡ false = sym (rw (lt-ltb (get_or s i 0) 128 l) at e) ∙ t in
         rw (ascii-code s i h l, no)
 
-    pub byte_more : RunAt class s i → r ≡ true → RunAt class s (i + 1)
-    byte_more at t = run_more class s i 1 at h (step-ascii t) (λ z. omega arith)
+    pub byte-more : RunAt class s i → r ≡ true → RunAt class s (i + 1)
+    byte-more at t = run-more class s i 1 at h (step-ascii t) (λ z. omega arith)
 
     pub byte-stop : RunAt class s i → r ≡ false → get_or s i 0 < 128 → i ≡ run (inClass class) 0 s
     byte-stop at t l = run-stop class s i 0 at h (step-ascii-no t l) refl

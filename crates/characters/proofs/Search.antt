@@ -29,8 +29,8 @@ ascends (a ∷ b ∷ ends) e (suc p) (suc q) h l =
 
 -- ---- the loop
 
-not_suc_le_self : {k n : ℕ} → n ≤ k → k < n → ⊥
-not_suc_le_self h l = omega arith
+not-suc-le-self : {k n : ℕ} → n ≤ k → k < n → ⊥
+not-suc-le-self h l = omega arith
 
 pub record SearchAt (ends : List ℕ) (c low high : ℕ) : Type 0 where
   pub order : low ≤ high
@@ -45,7 +45,7 @@ module _ (ends : List ℕ) (c : ℕ) where
         order = zero-le;
         inside = le_refl (length ends);
         below = λ e k h. absurd (not-suc-le-zero h);
-        above = λ e k h l. absurd (not_suc_le_self h l);
+        above = λ e k h l. absurd (not-suc-le-self h l);
       }
 
   module _ (low high : ℕ) (at : SearchAt ends c low high) (h : low < high) where

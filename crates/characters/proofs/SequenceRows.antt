@@ -12,7 +12,7 @@ use lib.Dec.{leb}
 use borrow.Author.Tests.{le-leb, lt-leb, ltb-true}
 use Rattle.characters.specs.Ranges.{within, ordered}
 use Rattle.characters.specs.Utf8.{fitsRow, sequenceIn, sequenceLength, table-3-7}
-use Rattle.characters.proofs.TableParts.{first, from_first, before, before-grows, closes, closes-below}
+use Rattle.characters.proofs.TableParts.{first, from-first, before, before-grows, closes, closes-below}
 
 -- ---- one byte
 
@@ -67,17 +67,17 @@ abbrev pub Rows : Type 0
 Rows = List (List (ℕ × ℕ))
 
 -- a row's range of first bytes, and what follows. A row that is empty is of no use: its range is none.
-abbrev pub first_of : List (ℕ × ℕ) → ℕ × ℕ
-first_of [] = (1, 0)
-first_of (range ∷ row) = range
+abbrev pub firstOf : List (ℕ × ℕ) → ℕ × ℕ
+firstOf [] = (1, 0)
+firstOf (range ∷ row) = range
 
-abbrev pub rest_of : List (ℕ × ℕ) → List (ℕ × ℕ)
-rest_of [] = []
-rest_of (range ∷ row) = row
+abbrev pub restOf : List (ℕ × ℕ) → List (ℕ × ℕ)
+restOf [] = []
+restOf (range ∷ row) = row
 
 abbrev pub firsts : Rows → List (ℕ × ℕ)
 firsts [] = []
-firsts (row ∷ rows) = first_of row ∷ firsts rows
+firsts (row ∷ rows) = firstOf row ∷ firsts rows
 
 -- the rows' first bytes are in order and apart
 abbrev Apart : ℕ → Rows → Type 0
@@ -86,36 +86,36 @@ Apart least rows = ordered least (firsts rows) ≡ true
 abbrev pub none : List (ℕ × ℕ)
 none = []
 
-no_row : (least : ℕ) (rows : Rows) (b : ℕ) (s : List ℕ) → Apart least rows → b < least → sequenceIn rows (b ∷ s) ≡ 0
+no-row : (least : ℕ) (rows : Rows) (b : ℕ) (s : List ℕ) → Apart least rows → b < least → sequenceIn rows (b ∷ s) ≡ 0
 unfolding sequenceIn fitsRow within
-no_row least [] b s e h = refl
-no_row least ([] ∷ rows) b s e h =
+no-row least [] b s e h = refl
+no-row least ([] ∷ rows) b s e h =
     let f = (first least (1, 0) (firsts rows) e).some in
     absurd (not-suc-le-zero f)
-no_row least ((range ∷ row) ∷ rows) b s e h =
+no-row least ((range ∷ row) ∷ rows) b s e h =
     let f = first least range (firsts rows) e in
     rw (lt-leb range.0 b (lt_of_lt_of_le h f.starts))
-    (no_row (suc range.1) rows b s f.rest (lt_of_lt_of_le h (le_trans f.starts (le_trans f.some (omega arith)))))
+    (no-row (suc range.1) rows b s f.rest (lt_of_lt_of_le h (le_trans f.starts (le_trans f.some (omega arith)))))
 
-from-least : (least : ℕ) (rows : Rows) (k b : ℕ) → Apart least rows → (first_of (get_or rows k none)).0 ≤ b → b ≤ (first_of (get_or rows k none)).1 → least ≤ b
+from-least : (least : ℕ) (rows : Rows) (k b : ℕ) → Apart least rows → (firstOf (get_or rows k none)).0 ≤ b → b ≤ (firstOf (get_or rows k none)).1 → least ≤ b
 from-least least [] k b e l h = absurd (not-suc-le-zero (le_trans l h))
-from-least least (row ∷ rows) zero b e l h = le_trans (first least (first_of row) (firsts rows) e).starts l
+from-least least (row ∷ rows) zero b e l h = le_trans (first least (firstOf row) (firsts rows) e).starts l
 from-least least (row ∷ rows) (suc k) b e l h =
-    let f = first least (first_of row) (firsts rows) e in
-    le_trans f.starts (le_trans f.some (le_trans (omega arith) (from-least (suc (first_of row).1) rows k b f.rest l h)))
+    let f = first least (firstOf row) (firsts rows) e in
+    le_trans f.starts (le_trans f.some (le_trans (omega arith) (from-least (suc (firstOf row).1) rows k b f.rest l h)))
 
 -- a first byte that lies in row k's range has that row
-row_is : (least : ℕ) (rows : Rows) (k b : ℕ) (s : List ℕ) → Apart least rows → (first_of (get_or rows k none)).0 ≤ b → b ≤ (first_of (get_or rows k none)).1
-    → sequenceIn rows (b ∷ s) ≡ cond (fitsRow (rest_of (get_or rows k none)) s) (suc (length (rest_of (get_or rows k none)))) 0
+row-is : (least : ℕ) (rows : Rows) (k b : ℕ) (s : List ℕ) → Apart least rows → (firstOf (get_or rows k none)).0 ≤ b → b ≤ (firstOf (get_or rows k none)).1
+    → sequenceIn rows (b ∷ s) ≡ cond (fitsRow (restOf (get_or rows k none)) s) (suc (length (restOf (get_or rows k none)))) 0
 unfolding sequenceIn fitsRow within
-row_is least [] k b s e l h = absurd (not-suc-le-zero (le_trans l h))
-row_is least ([] ∷ rows) k b s e l h = absurd (not-suc-le-zero (first least (1, 0) (firsts rows) e).some)
-row_is least ((range ∷ row) ∷ rows) zero b s e l h =
-    rw (le-leb range.0 b l, le-leb b range.1 h, no_row (suc range.1) rows b s (first least range (firsts rows) e).rest (suc-le-suc h))
-row_is least ((range ∷ row) ∷ rows) (suc k) b s e l h =
+row-is least [] k b s e l h = absurd (not-suc-le-zero (le_trans l h))
+row-is least ([] ∷ rows) k b s e l h = absurd (not-suc-le-zero (first least (1, 0) (firsts rows) e).some)
+row-is least ((range ∷ row) ∷ rows) zero b s e l h =
+    rw (le-leb range.0 b l, le-leb b range.1 h, no-row (suc range.1) rows b s (first least range (firsts rows) e).rest (suc-le-suc h))
+row-is least ((range ∷ row) ∷ rows) (suc k) b s e l h =
     let f = first least range (firsts rows) e in
     let past : range.1 < b = from-least (suc range.1) rows k b f.rest l h in
-    rw (lt-leb b range.1 past, and-false (leb range.0 b)) (row_is (suc range.1) rows k b s f.rest l h)
+    rw (lt-leb b range.1 past, and-false (leb range.0 b)) (row-is (suc range.1) rows k b s f.rest l h)
 
 -- one test that the checker computes over the table
 apart : Apart 0 table-3-7
@@ -123,16 +123,16 @@ unfolding ordered table-3-7
 apart = refl
 
 -- a first byte between the ranges of row k and of the row before it has none
-gap_is : (least : ℕ) (rows : Rows) (k b : ℕ) (s : List ℕ) → Apart least rows → before least (firsts rows) k ≤ b → closes (drop k (firsts rows)) b ≡ true → sequenceIn rows (b ∷ s) ≡ 0
+gap-is : (least : ℕ) (rows : Rows) (k b : ℕ) (s : List ℕ) → Apart least rows → before least (firsts rows) k ≤ b → closes (drop k (firsts rows)) b ≡ true → sequenceIn rows (b ∷ s) ≡ 0
 unfolding sequenceIn fitsRow within
-gap_is least [] k b s e l h = refl
-gap_is least (row ∷ rows) zero b s e l h =
-    no_row (first_of row).0 (row ∷ rows) b s (from_first least (first_of row) (firsts rows) e) (ltb-true b (first_of row).0 h)
-gap_is least ([] ∷ rows) (suc k) b s e l h = absurd (not-suc-le-zero (first least (1, 0) (firsts rows) e).some)
-gap_is least ((range ∷ row) ∷ rows) (suc k) b s e l h =
+gap-is least [] k b s e l h = refl
+gap-is least (row ∷ rows) zero b s e l h =
+    no-row (firstOf row).0 (row ∷ rows) b s (from-first least (firstOf row) (firsts rows) e) (ltb-true b (firstOf row).0 h)
+gap-is least ([] ∷ rows) (suc k) b s e l h = absurd (not-suc-le-zero (first least (1, 0) (firsts rows) e).some)
+gap-is least ((range ∷ row) ∷ rows) (suc k) b s e l h =
     let f = first least range (firsts rows) e in
     let past : range.1 < b = le_trans (before-grows (suc range.1) (firsts rows) k f.rest) l in
-    rw (lt-leb b range.1 past, and-false (leb range.0 b)) (gap_is (suc range.1) rows k b s f.rest l h)
+    rw (lt-leb b range.1 past, and-false (leb range.0 b)) (gap-is (suc range.1) rows k b s f.rest l h)
 
 -- as `sequence_length` uses them
 
@@ -141,17 +141,17 @@ unfolding sequenceLength sequenceIn table-3-7 fitsRow
 sequence-none [] h = refl
 sequence-none (b ∷ s) h = absurd (let z : ⊥ = omega arith in z)
 
-pub sequence-row : (k : ℕ) (s : List ℕ) (r : ℕ) → 0 < length s → (first_of (get_or table-3-7 k none)).0 ≤ get_or s 0 0 → get_or s 0 0 ≤ (first_of (get_or table-3-7 k none)).1
-    → r ≡ cond (fitsRow (rest_of (get_or table-3-7 k none)) (drop 1 s)) (suc (length (rest_of (get_or table-3-7 k none)))) 0
+pub sequence-row : (k : ℕ) (s : List ℕ) (r : ℕ) → 0 < length s → (firstOf (get_or table-3-7 k none)).0 ≤ get_or s 0 0 → get_or s 0 0 ≤ (firstOf (get_or table-3-7 k none)).1
+    → r ≡ cond (fitsRow (restOf (get_or table-3-7 k none)) (drop 1 s)) (suc (length (restOf (get_or table-3-7 k none)))) 0
     → r ≡ sequenceLength s
 unfolding sequenceLength
 sequence-row k [] r o l h e = absurd (not-suc-le-zero o)
-sequence-row k (b ∷ s) r o l h e = e ∙ sym (row_is 0 table-3-7 k b s apart l h)
+sequence-row k (b ∷ s) r o l h e = e ∙ sym (row-is 0 table-3-7 k b s apart l h)
 
 pub sequence-gap : (k : ℕ) (s : List ℕ) → 0 < length s → before 0 (firsts table-3-7) k ≤ get_or s 0 0 → closes (drop k (firsts table-3-7)) (get_or s 0 0) ≡ true → 0 ≡ sequenceLength s
 unfolding sequenceLength
 sequence-gap k [] o l h = absurd (not-suc-le-zero o)
-sequence-gap k (b ∷ s) o l h = sym (gap_is 0 table-3-7 k b s apart l h)
+sequence-gap k (b ∷ s) o l h = sym (gap-is 0 table-3-7 k b s apart l h)
 
 pub sequence-between : (k high : ℕ) → closes (drop k (firsts table-3-7)) high ≡ true → (s : List ℕ) → 0 < length s → before 0 (firsts table-3-7) k ≤ get_or s 0 0 → get_or s 0 0 ≤ high → 0 ≡ sequenceLength s
 sequence-between k high e s o l h = sequence-gap k s o l (closes-below (drop k (firsts table-3-7)) (get_or s 0 0) high h e)

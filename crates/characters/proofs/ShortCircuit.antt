@@ -10,11 +10,11 @@ module _ (a b r : Bool) (e : r ≡ a) where
   pub or-second : (q : Bool) → r ≡ false → q ≡ b → q ≡ (a || b)
   or-second q t f = rw (← e, t) f
 
-  pub and_first : r ≡ false → r ≡ (a && b)
-  and_first t = rw (← e, t)
+  pub and-first : r ≡ false → r ≡ (a && b)
+  and-first t = rw (← e, t)
 
-  pub and_second : (q : Bool) → r ≡ true → q ≡ b → q ≡ (a && b)
-  and_second q t f = rw (← e, t) f
+  pub and-second : (q : Bool) → r ≡ true → q ≡ b → q ≡ (a && b)
+  and-second q t f = rw (← e, t) f
 
 -- the last of some
 pub or-last : (a r : Bool) → r ≡ a → r ≡ (a || false)

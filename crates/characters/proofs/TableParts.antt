@@ -68,13 +68,13 @@ before-grows least (range ∷ ranges) (suc m) e =
     let f = first least range ranges e in
     le_trans (le_trans f.starts (le_trans f.some (omega arith))) (before-grows (suc range.1) ranges m f.rest)
 
-below_all : (least : ℕ) (ranges : Ranges) (c : ℕ) → ordered least ranges ≡ true → c < least → inRanges ranges c ≡ false
+below-all : (least : ℕ) (ranges : Ranges) (c : ℕ) → ordered least ranges ≡ true → c < least → inRanges ranges c ≡ false
 unfolding inRanges within
-below_all least [] c e h = refl
-below_all least (range ∷ ranges) c e h =
+below-all least [] c e h = refl
+below-all least (range ∷ ranges) c e h =
     let f = first least range ranges e in
     rw (lt-leb range.0 c (lt_of_lt_of_le h f.starts))
-    (below_all (suc range.1) ranges c f.rest (lt_of_lt_of_le h (le_trans f.starts (le_trans f.some (omega arith)))))
+    (below-all (suc range.1) ranges c f.rest (lt_of_lt_of_le h (le_trans f.starts (le_trans f.some (omega arith)))))
 
 -- the first m ranges end before c
 passed : (least : ℕ) (ranges : Ranges) (m c : ℕ) → ordered least ranges ≡ true → before least ranges m ≤ c → inRanges (drop m ranges) c ≡ inRanges ranges c
@@ -90,9 +90,9 @@ passed least (range ∷ ranges) (suc m) c e h =
     and-false true b = refl
     and-false false b = refl
 
-pub from_first : (least : ℕ) (range : ℕ × ℕ) (ranges : Ranges) → ordered least (range ∷ ranges) ≡ true → ordered range.0 (range ∷ ranges) ≡ true
+pub from-first : (least : ℕ) (range : ℕ × ℕ) (ranges : Ranges) → ordered least (range ∷ ranges) ≡ true → ordered range.0 (range ∷ ranges) ≡ true
 unfolding ordered
-from_first least range ranges e =
+from-first least range ranges e =
     rw (le-leb range.0 range.0 (le_refl range.0))
     ((and-eq-true_iff (leb least range.0) (leb range.0 range.1 && ordered (suc range.1) ranges)).0 e).1
 
@@ -101,7 +101,7 @@ ahead : (least : ℕ) (ranges : Ranges) (n c : ℕ) → ordered least ranges ≡
 unfolding inRanges
 ahead least [] zero c e h = refl
 ahead least (range ∷ ranges) zero c e h =
-    sym (below_all range.0 (range ∷ ranges) c (from_first least range ranges e) (ltb-true c range.0 h))
+    sym (below-all range.0 (range ∷ ranges) c (from-first least range ranges e) (ltb-true c range.0 h))
 ahead least [] (suc n) c e h = refl
 ahead least (range ∷ ranges) (suc n) c e h =
     ap (λ (b : Bool). within range.0 range.1 c || b) (ahead (suc range.1) ranges n c (first least range ranges e).rest h)

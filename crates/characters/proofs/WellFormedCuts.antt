@@ -73,10 +73,10 @@ stop-cut s n (behind m e h l) w =
     rw e (ascii-next (get_or s m 0) (drop (suc m) s) l (rw (drop-cons s m 0 h) at c))
 
 pub stop-later : (b : ℕ) (s : List ℕ) (n : ℕ) → Stop s n → Stop (b ∷ s) (1 + n)
-stop-later b s n h = rw one_more (go h)
+stop-later b s n h = rw one-more (go h)
   where
-    one_more : 1 + n ≡ suc n
-    one_more = omega arith
+    one-more : 1 + n ≡ suc n
+    one-more = omega arith
 
     go : Stop s n → Stop (b ∷ s) (suc n)
     go (at-end e) = at-end (ap suc e)

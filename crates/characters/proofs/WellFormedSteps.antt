@@ -19,7 +19,7 @@ use Rattle.characters.specs.declared.IllFormed.TheVariants.{At, Nowhere}
 use Rattle.characters.specs.Ranges.{within}
 use Rattle.characters.specs.Utf8.{table-3-7, fitsRow, sequenceIn, sequenceLength, wellFormedFrom, firstIllFormed, wellFormed}
 use Rattle.characters.specs.Character.{isContinuation, continuations, continued, characterLength}
-use Rattle.characters.proofs.Within.{within_low, within-high, within-is}
+use Rattle.characters.proofs.Within.{within-low, within-high, within-is}
 use Rattle.characters.proofs.SequenceRows.{Rows}
 use Rattle.characters.proofs.FirstIllFormed.{sequence-inside, step, stop}
 
@@ -58,7 +58,7 @@ starts-continued (range ∷ row) (b ∷ s) c e =
     let c₂ = (and-eq-true_iff (leb 0x80 range.0 && leb range.1 0xBF) (continuing row)).0 c in
     let c₃ = (and-eq-true_iff (leb 0x80 range.0) (leb range.1 0xBF)).0 c₂.0 in
     let e₂ = (and-eq-true_iff (within range.0 range.1 b) (fitsRow row s)).0 e in
-    let low : 0x80 ≤ b = le_trans (leb-true 0x80 range.0 c₃.0) (within_low range.0 range.1 b e₂.0) in
+    let low : 0x80 ≤ b = le_trans (leb-true 0x80 range.0 c₃.0) (within-low range.0 range.1 b e₂.0) in
     let high : b ≤ 0xBF = le_trans (within-high range.0 range.1 b e₂.0) (leb-true range.1 0xBF c₃.1) in
     rw (within-is 0x80 0xBF b low high) (ap suc (starts-continued row s c₂.1 e₂.1))
 
@@ -87,16 +87,16 @@ row-whole (range ∷ row) b s n c e l =
     let low = eqb-true (continuations range.0) (length row) c₃.0 in
     let high = eqb-true (continuations range.1) (length row) c₃.1 in
     let e₂ = (and-eq-true_iff (within range.0 range.1 b) (fitsRow row s)).0 e in
-    let from = continuations-grow range.0 b (within_low range.0 range.1 b e₂.0) in
+    let from = continuations-grow range.0 b (within-low range.0 range.1 b e₂.0) in
     let to = continuations-grow b range.1 (within-high range.0 range.1 b e₂.0) in
     record { calls = omega arith; follow = rw (← m) (starts-continued row s c₂.1 e₂.1) }
 
-rows_whole : (rows : Rows) (b : ℕ) (s : List ℕ) (n : ℕ) → allCalled rows ≡ true → sequenceIn rows (b ∷ s) ≡ suc n → Whole b s n
+rows-whole : (rows : Rows) (b : ℕ) (s : List ℕ) (n : ℕ) → allCalled rows ≡ true → sequenceIn rows (b ∷ s) ≡ suc n → Whole b s n
 unfolding sequenceIn
-rows_whole [] b s n c e = absurd (let z : ⊥ = omega arith in z)
-rows_whole (row ∷ rows) b s n c e =
+rows-whole [] b s n c e = absurd (let z : ⊥ = omega arith in z)
+rows-whole (row ∷ rows) b s n c e =
     let c₂ = (and-eq-true_iff (called row) (allCalled rows)).0 c in
-    go (fitsRow row (b ∷ s)) refl c₂.0 (λ q. rows_whole rows b s n c₂.1 q)
+    go (fitsRow row (b ∷ s)) refl c₂.0 (λ q. rows-whole rows b s n c₂.1 q)
   where
     go : (t : Bool) → fitsRow row (b ∷ s) ≡ t → called row ≡ true → (sequenceIn rows (b ∷ s) ≡ suc n → Whole b s n) → Whole b s n
     go true q c₁ rest = row-whole row b s n c₁ q (rw q at e)
@@ -109,7 +109,7 @@ table-called = refl
 
 pub sequence-whole : (b : ℕ) (s : List ℕ) (n : ℕ) → sequenceLength (b ∷ s) ≡ suc n → Whole b s n
 unfolding sequenceLength
-sequence-whole b s n e = rows_whole table-3-7 b s n table-called e
+sequence-whole b s n e = rows-whole table-3-7 b s n table-called e
 
 pub sequence-character : (s : List ℕ) (n : ℕ) → sequenceLength s ≡ suc n → characterLength s ≡ suc n
 unfolding characterLength
@@ -125,7 +125,7 @@ continued-high (suc n) [] k h = absurd (not-suc-le-zero h)
 continued-high (suc n) (b ∷ s) k h = go (isContinuation b) refl k (λ j. continued-high n s j) h
   where
     high : isContinuation b ≡ true → 0x80 ≤ b
-    high e = within_low 0x80 0xBF b e
+    high e = within-low 0x80 0xBF b e
 
     go : (t : Bool) → isContinuation b ≡ t → (k : ℕ) → ((j : ℕ) → j < continued n s → 0x80 ≤ get_or s j 0) → k < cond t (suc (continued n s)) 0 → 0x80 ≤ get_or (b ∷ s) k 0
     go true e zero f h = high e

@@ -12,7 +12,7 @@ use borrow.Author.Tests.{leb-true, ltb-true, ltb-false, lt-ltb, le-ltb}
 use Rattle.characters.specs.Ranges.{within, inRanges}
 use Rattle.characters.specs.WhiteSpace.{whiteSpace}
 use Rattle.characters.specs.Classes.{isWhitespace}
-use Rattle.characters.specs.Character.{isContinuation, continuations, continued, firstBits, with_bits, codePoint}
+use Rattle.characters.specs.Character.{isContinuation, continuations, continued, firstBits, withBits, codePoint}
 use Rattle.characters.proofs.ClassesApart.{outside}
 use Rattle.characters.proofs.Within.{within-is, above-not}
 
@@ -27,16 +27,16 @@ abbrev allUpTo : ℕ → List (ℕ × ℕ) → Bool
 allUpTo n [] = true
 allUpTo n (range ∷ ranges) = leb range.1 n && allUpTo n ranges
 
-past_all : (n c : ℕ) (ranges : List (ℕ × ℕ)) → allUpTo n ranges ≡ true → n < c → inRanges ranges c ≡ false
+past-all : (n c : ℕ) (ranges : List (ℕ × ℕ)) → allUpTo n ranges ≡ true → n < c → inRanges ranges c ≡ false
 unfolding inRanges
-past_all n c [] a h = refl
-past_all n c (range ∷ ranges) a h =
+past-all n c [] a h = refl
+past-all n c (range ∷ ranges) a h =
     let both = (and-eq-true_iff (leb range.1 n) (allUpTo n ranges)).0 a in
-    rw (above-not range.0 range.1 c (let k = leb-true range.1 n both.0 in omega arith)) (past_all n c ranges both.1 h)
+    rw (above-not range.0 range.1 c (let k = leb-true range.1 n both.0 in omega arith)) (past-all n c ranges both.1 h)
 
 high-not-white : (c : ℕ) → 0x3000 < c → isWhitespace c ≡ false
 unfolding isWhitespace whiteSpace
-high-not-white c h = past_all 0x3000 c whiteSpace refl h
+high-not-white c h = past-all 0x3000 c whiteSpace refl h
 
 two-not-white : (c : ℕ) → 0xC0 ≤ c → c ≤ 0x7FF → isWhitespace c ≡ false
 unfolding isWhitespace whiteSpace
@@ -51,7 +51,7 @@ one-not-white c h l = outside (0x40, 0x7F) whiteSpace c refl (within-is 0x40 0x7
 module _ (b : ℕ) where
   -- none: a continuation byte
   pub white-none : (s : List ℕ) → 0x80 ≤ b → b < 0xC0 → isWhitespace (codePoint (b ∷ s)) ≡ false
-  unfolding codePoint continuations continued firstBits with_bits
+  unfolding codePoint continuations continued firstBits withBits
   white-none s h l = rw (lt-ltb b 0xC0 l, le-ltb b 0x80 h) nought-not-white
 
   -- one
@@ -73,7 +73,7 @@ module _ (b : ℕ) where
             two-not-white _ (omega (arith, r, o)) (omega (arith, r, o, l))
 
     pub white-two : (s : List ℕ) → isWhitespace (codePoint (b ∷ s)) ≡ false
-    unfolding codePoint continuations continued firstBits with_bits
+    unfolding codePoint continuations continued firstBits withBits
     white-two [] = rw (le-ltb b 0xC0 h, lt-ltb b 0xE0 l) nought-not-white
     white-two (x ∷ s) = rw (le-ltb b 0xC0 h, lt-ltb b 0xE0 l, le-ltb b 0x80 (omega arith)) (go (isContinuation x))
       where
@@ -84,7 +84,7 @@ module _ (b : ℕ) where
   -- two
   module _ (h : 0xE3 < b) (l : b < 0xF0) where
     pub white-three : (s : List ℕ) → isWhitespace (codePoint (b ∷ s)) ≡ false
-    unfolding codePoint continuations continued firstBits with_bits
+    unfolding codePoint continuations continued firstBits withBits
     white-three [] = rw (le-ltb b 0xC0 (omega arith), le-ltb b 0xE0 (omega arith), lt-ltb b 0xF0 l) nought-not-white
     white-three (x ∷ []) = rw (le-ltb b 0xC0 (omega arith), le-ltb b 0xE0 (omega arith), lt-ltb b 0xF0 l) (go (isContinuation x) _)
       where
@@ -101,7 +101,7 @@ module _ (b : ℕ) where
   -- three
   module _ (h : 0xF0 < b) where
     pub white-four : (s : List ℕ) → isWhitespace (codePoint (b ∷ s)) ≡ false
-    unfolding codePoint continuations continued firstBits with_bits
+    unfolding codePoint continuations continued firstBits withBits
     white-four [] = rw (le-ltb b 0xC0 (omega arith), le-ltb b 0xE0 (omega arith), le-ltb b 0xF0 (omega arith)) nought-not-white
     white-four (x ∷ []) = rw (le-ltb b 0xC0 (omega arith), le-ltb b 0xE0 (omega arith), le-ltb b 0xF0 (omega arith)) (go (isContinuation x) _)
       where

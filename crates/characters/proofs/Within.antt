@@ -8,9 +8,9 @@ use borrow.Author.Tests.{le-leb, lt-leb, leb-true}
 use Rattle.characters.specs.Ranges.{within}
 
 module _ (a b c : ℕ) where
-  pub within_low : within a b c ≡ true → a ≤ c
+  pub within-low : within a b c ≡ true → a ≤ c
   unfolding within
-  within_low e = leb-true a c ((and-eq-true_iff (leb a c) (leb c b)).0 e).0
+  within-low e = leb-true a c ((and-eq-true_iff (leb a c) (leb c b)).0 e).0
 
   pub within-high : within a b c ≡ true → c ≤ b
   unfolding within

@@ -23,9 +23,9 @@ unfoldable pub firstBits : ℕ → ℕ
 firstBits b = cond (ltb b 0x80) b (cond (ltb b 0xC0) 0 (cond (ltb b 0xE0) (b - 0xC0) (cond (ltb b 0xF0) (b - 0xE0) (b - 0xF0))))
 
 -- the value with six bits more from each continuation byte
-unfoldable pub with_bits : ℕ → List ℕ → ℕ
-with_bits value [] = value
-with_bits value (b ∷ bytes) = with_bits (value * 64 + b % 64) bytes
+unfoldable pub withBits : ℕ → List ℕ → ℕ
+withBits value [] = value
+withBits value (b ∷ bytes) = withBits (value * 64 + b % 64) bytes
 
 unfoldable pub characterLength : List ℕ → ℕ
 characterLength [] = 0
@@ -34,7 +34,7 @@ characterLength (b ∷ bytes) = suc (continued (continuations b) bytes)
 unfoldable pub codePoint : List ℕ → ℕ
 codePoint [] = 0
 codePoint (b ∷ bytes) =
-    cond (eqb (continued (continuations b) bytes) (continuations b)) (with_bits (firstBits b) (take (continuations b) bytes)) 0
+    cond (eqb (continued (continuations b) bytes) (continuations b)) (withBits (firstBits b) (take (continuations b) bytes)) 0
 
 unfoldable pub character : List ℕ → Character
 character bytes = record { code_point = codePoint bytes; len = characterLength bytes }

@@ -14,7 +14,7 @@ use Rattle.tokenizer.specs.Tokens.{tokens}
 use Rattle.calls.specs.Texts.{textAnswer, textAfter, callAnswer, callOutput}
 use Rattle.params.specs.declared.Found.{Found}
 use Rattle.params.specs.Get.{ownText}
-use Rattle.params.specs.Filled.{isPlaceholder, stands_for, index_after, partBytes, filledFrom, filled}
+use Rattle.params.specs.Filled.{isPlaceholder, standsFor, indexAfter, partBytes, filledFrom, filled}
 use Rattle.params.specs.Answers.{checkedWith, foundFor, foundFirst, found_at, lookupFound, lookupBytes, lookupCounter, fillAnswer, fillOutput}
 
 -- the bytes of so many lookups, from a place and a counter on, laid end to end
@@ -36,18 +36,18 @@ module _ (s : List ℕ) (dialect joins named : ℕ) (sheet : List ℕ) (settings
   behind : (place : ℕ) (t : Token) (ts : List Token) → drop place (tokens settings s) ≡ t ∷ ts → drop (suc place) (tokens settings s) ≡ ts
   behind place t ts f = rw (← add-one place) (sym (drop-drop 1 place (tokens settings s)) ∙ ap (drop 1) f)
 
-  from_place : (ts : List Token) (place counter : ℕ) → drop place (tokens settings s) ≡ ts
+  from-place : (ts : List Token) (place counter : ℕ) → drop place (tokens settings s) ≡ ts
       → filledFrom s sheet counter ts ≡ lookups s dialect joins named sheet (length ts) place counter
   unfolding filledFrom lookups
-  from_place [] place counter f = refl
-  from_place (t ∷ ts) place counter f =
+  from-place [] place counter f = refl
+  from-place (t ∷ ts) place counter f =
       let found = there place counter t ts f in
-      ap (λ (l : List ℕ). partBytes s sheet (stands_for s sheet counter t) ++ l) (from_place ts (suc place) (index_after s sheet counter t) (behind place t ts f))
+      ap (λ (l : List ℕ). partBytes s sheet (standsFor s sheet counter t) ++ l) (from-place ts (suc place) (indexAfter s sheet counter t) (behind place t ts f))
       ∙ ap (λ (q : Found). partBytes s sheet q.part ++ lookups s dialect joins named sheet (length ts) (suc place) q.counter) (sym found)
 
   pub fill-is-lookups : filled settings s sheet ≡ lookups s dialect joins named sheet (length (tokens settings s)) 0 0
   unfolding filled
-  fill-is-lookups = from_place (tokens settings s) 0 0 refl
+  fill-is-lookups = from-place (tokens settings s) 0 0 refl
 
   -- so fill tells and writes their bytes
   pub fill-tells-lookups : (room : ℕ) → fillAnswer s dialect joins named sheet room ≡ textAnswer (lookups s dialect joins named sheet (length (tokens settings s)) 0 0) room
@@ -65,5 +65,5 @@ module _ (s : List ℕ) (dialect joins named : ℕ) (sheet : List ℕ) (settings
   -- a token that is no Placeholder keeps its text and the counter
   pub other-kept : (place counter : ℕ) (t : Token) (ts : List Token) → drop place (tokens settings s) ≡ t ∷ ts → isPlaceholder t ≡ false
       → lookupFound s dialect joins named sheet place counter ≡ record { part = ownText t; counter = counter }
-  unfolding stands_for index_after
+  unfolding standsFor indexAfter
   other-kept place counter t ts f g = there place counter t ts f ∙ rw g

@@ -17,9 +17,9 @@ use Rattle.calls.specs.Texts.{textAnswer, textAfter}
 use Rattle.calls.proofs.TextCalls.{most-room, most-answer, most-output}
 use Rattle.tokenizer.specs.declared.Token.{Token}
 use Rattle.tokenizer.proofs.Walks.{text-by-bytes}
-use Rattle.params.specs.Sheet.{count_of, isSheet}
+use Rattle.params.specs.Sheet.{countOf, isSheet}
 use Rattle.params.specs.Get.{taken, valuePart, valueOr, get}
-use Rattle.params.specs.Filled.{isPlaceholder, stands_for, partBytes, partLength, filled}
+use Rattle.params.specs.Filled.{isPlaceholder, standsFor, partBytes, partLength, filled}
 use Rattle.params.specs.Inner.Longest.{longestValue, mostFilled}
 use Rattle.params.proofs.FillWalk.{fillWalk, stands-long}
 use Rattle.params.proofs.LongestValues.{longest-some, longest-small, value-short}
@@ -30,17 +30,17 @@ module _ (s sheet : List ℕ) where
   -- a value, or the token itself
   value-or-short : (n : ℕ) (t : Token) → 1 ≤ t.len → partLength (valueOr sheet n t) ≤ t.len * longestValue sheet
   unfolding valueOr valuePart
-  value-or-short n t h = go (ltb n (count_of sheet)) refl
+  value-or-short n t h = go (ltb n (countOf sheet)) refl
     where
-      go : (b : Bool) → ltb n (count_of sheet) ≡ b → partLength (valueOr sheet n t) ≤ t.len * longestValue sheet
-      go true e = rw e (le_trans (value-short sheet n (ltb-true n (count_of sheet) e)) (rw one-mul at (mul-le-mul_right (longestValue sheet) h)))
+      go : (b : Bool) → ltb n (countOf sheet) ≡ b → partLength (valueOr sheet n t) ≤ t.len * longestValue sheet
+      go true e = rw e (le_trans (value-short sheet n (ltb-true n (countOf sheet) e)) (rw one-mul at (mul-le-mul_right (longestValue sheet) h)))
       go false e = rw e (rw mul-one at (mul-le-mul_left t.len (longest-some sheet)))
 
-  stands-short : (index : ℕ) (t : Token) → 1 ≤ t.len → partLength (stands_for s sheet index t) ≤ t.len * longestValue sheet
-  unfolding stands_for get
+  stands-short : (index : ℕ) (t : Token) → 1 ≤ t.len → partLength (standsFor s sheet index t) ≤ t.len * longestValue sheet
+  unfolding standsFor get
   stands-short index t h = go (isPlaceholder t) refl
     where
-      go : (b : Bool) → isPlaceholder t ≡ b → partLength (stands_for s sheet index t) ≤ t.len * longestValue sheet
+      go : (b : Bool) → isPlaceholder t ≡ b → partLength (standsFor s sheet index t) ≤ t.len * longestValue sheet
       go true e = rw e (value-or-short (taken s sheet index t.key) t h)
       go false e = rw e (rw mul-one at (mul-le-mul_left t.len (longest-some sheet)))
 
@@ -51,8 +51,8 @@ module _ (s sheet : List ℕ) where
     unfolding filled mostFilled
     filled-short settings = text-by-bytes (fillWalk s sheet) settings s (longestValue sheet) each 0
       where
-        each : (index : ℕ) (t : Token) → 1 ≤ t.len → t.start + t.len ≤ length s → length (partBytes s sheet (stands_for s sheet index t)) ≤ t.len * longestValue sheet
-        each index t h k = rw (← stands-long s sheet index t (partLength (stands_for s sheet index t)) good k refl) (stands-short index t h)
+        each : (index : ℕ) (t : Token) → 1 ≤ t.len → t.start + t.len ≤ length s → length (partBytes s sheet (standsFor s sheet index t)) ≤ t.len * longestValue sheet
+        each index t h k = rw (← stands-long s sheet index t (partLength (standsFor s sheet index t)) good k refl) (stands-short index t h)
 
     pub most-fits : (n : ℕ) → length s ≤ 65536 → n ≡ longestValue sheet → Fits w64 (length s * n)
     most-fits n h e =

@@ -11,9 +11,9 @@ use borrow.Author.Tests.{lt-ltb, le-ltb, ltb-true, ltb-false}
 use lib.Dec.{ltb}
 use Rattle.params.specs.declared.Lengths.{Lengths}
 use Rattle.params.specs.declared.Place.{Place}
-use Rattle.params.specs.Sheet.{count_of, lengthsAt, past, place_of, isSheet}
+use Rattle.params.specs.Sheet.{countOf, lengthsAt, past, placeOf, isSheet}
 use Rattle.params.specs.Inner.Longest.{larger, longestOf, longestValue}
-use Rattle.params.proofs.EntriesInside.{Reached, sheet-short, at-end, stands, entry_of}
+use Rattle.params.proofs.EntriesInside.{Reached, sheet-short, at-end, stands, entry-of}
 
 -- ---- the larger of two
 
@@ -27,7 +27,7 @@ module _ (a b : ℕ) where
   first-larger h = rw (le-ltb a b h)
 
   record Both (c : ℕ) : Type 0 where
-    left_below : a ≤ c
+    left-below : a ≤ c
     right-below : b ≤ c
 
   above-both : Both (larger a b)
@@ -35,8 +35,8 @@ module _ (a b : ℕ) where
   above-both = go (ltb a b) refl
     where
       go : (t : Bool) → ltb a b ≡ t → Both (larger a b)
-      go true e = let h : a < b = ltb-true a b e in rw e (record { left_below = omega arith; right-below = le_refl b })
-      go false e = let h : b ≤ a = ltb-false a b e in rw e (record { left_below = le_refl a; right-below = h })
+      go true e = let h : a < b = ltb-true a b e in rw e (record { left-below = omega arith; right-below = le_refl b })
+      go false e = let h : b ≤ a = ltb-false a b e in rw e (record { left-below = le_refl a; right-below = h })
 
   larger-below : (c : ℕ) → a ≤ c → b ≤ c → larger a b ≤ c
   unfolding larger
@@ -48,14 +48,14 @@ module _ (a b : ℕ) where
 
 module _ (sheet : List ℕ) where
   abbrev valueLength : ℕ → ℕ
-  valueLength n = (lengthsAt sheet (place_of sheet n)).value
+  valueLength n = (lengthsAt sheet (placeOf sheet n)).value
 
   -- ---- of the first n entries
 
   some-longest : (n : ℕ) → 1 ≤ longestOf sheet n
   unfolding longestOf
   some-longest zero = le_refl 1
-  some-longest (suc n) = le_trans (some-longest n) (above-both (longestOf sheet n) (valueLength n)).left_below
+  some-longest (suc n) = le_trans (some-longest n) (above-both (longestOf sheet n) (valueLength n)).left-below
 
   longest-above : (n i : ℕ) → i < n → valueLength i ≤ longestOf sheet n
   unfolding longestOf
@@ -63,40 +63,40 @@ module _ (sheet : List ℕ) where
   longest-above (suc n) i h = go (ltb i n) refl (longest-above n i)
     where
       go : (t : Bool) → ltb i n ≡ t → (i < n → valueLength i ≤ longestOf sheet n) → valueLength i ≤ longestOf sheet (suc n)
-      go true e ih = le_trans (ih (ltb-true i n e)) (above-both (longestOf sheet n) (valueLength n)).left_below
+      go true e ih = le_trans (ih (ltb-true i n e)) (above-both (longestOf sheet n) (valueLength n)).left-below
       go false e ih =
           let k : i ≡ n = let l : n ≤ i = ltb-false i n e in omega arith in
           rw k (above-both (longestOf sheet n) (valueLength n)).right-below
 
   pub longest-some : 1 ≤ longestValue sheet
   unfolding longestValue
-  longest-some = some-longest (count_of sheet)
+  longest-some = some-longest (countOf sheet)
 
-  pub value-short : (n : ℕ) → n < count_of sheet → valueLength n ≤ longestValue sheet
+  pub value-short : (n : ℕ) → n < countOf sheet → valueLength n ≤ longestValue sheet
   unfolding longestValue
-  value-short n h = longest-above (count_of sheet) n h
+  value-short n h = longest-above (countOf sheet) n h
 
   module _ (good : isSheet sheet ≡ true) where
-    value-small : (n : ℕ) → n < count_of sheet → valueLength n ≤ 65536
+    value-small : (n : ℕ) → n < countOf sheet → valueLength n ≤ 65536
     value-small n h =
-        let e : (place_of sheet n).entry ≡ n = entry_of sheet (place_of sheet n) n refl in
-        let k = at-end sheet good (place_of sheet n) (stands sheet (place_of sheet n) n refl) (count_of sheet) (omega (arith, e)) (le_refl (count_of sheet)) in
+        let e : (placeOf sheet n).entry ≡ n = entry-of sheet (placeOf sheet n) n refl in
+        let k = at-end sheet good (placeOf sheet n) (stands sheet (placeOf sheet n) n refl) (countOf sheet) (omega (arith, e)) (le_refl (countOf sheet)) in
         omega (arith, k, sheet-short sheet good)
 
-    first_small : (n : ℕ) → n ≤ count_of sheet → longestOf sheet n ≤ 65536
+    first-small : (n : ℕ) → n ≤ countOf sheet → longestOf sheet n ≤ 65536
     unfolding longestOf
-    first_small zero h = omega arith
-    first_small (suc n) h = larger-below (longestOf sheet n) (valueLength n) 65536 (first_small n (omega arith)) (value-small n (omega arith))
+    first-small zero h = omega arith
+    first-small (suc n) h = larger-below (longestOf sheet n) (valueLength n) 65536 (first-small n (omega arith)) (value-small n (omega arith))
 
     pub longest-small : longestValue sheet ≤ 65536
     unfolding longestValue
-    longest-small = first_small (count_of sheet) (le_refl (count_of sheet))
+    longest-small = first-small (countOf sheet) (le_refl (countOf sheet))
 
   -- ---- the walk over the entries
 
-  pub longest-start : (p : Place) → p ≡ place_of sheet 0 → 1 ≡ longestOf sheet p.entry
+  pub longest-start : (p : Place) → p ≡ placeOf sheet 0 → 1 ≡ longestOf sheet p.entry
   unfolding longestOf
-  longest-start p e = rw (entry_of sheet p 0 e)
+  longest-start p e = rw (entry-of sheet p 0 e)
 
   module _ (n longest : ℕ) (p : Place) (at : Reached sheet n p) (e : longest ≡ longestOf sheet p.entry) where
     pub longest-more : (l : Lengths) (m : ℕ) (q : Place) → l ≡ lengthsAt sheet p → m ≡ larger longest l.value → q ≡ past sheet p → m ≡ longestOf sheet q.entry
@@ -106,6 +106,6 @@ module _ (sheet : List ℕ) where
         let v : l.value ≡ valueLength p.entry = ap (λ (r : Lengths). r.value) f ∙ ap (λ (r : Place). (lengthsAt sheet r).value) at.standing in
         g ∙ rw (k, e, v)
 
-    pub longest-end : n ≤ p.entry → n ≡ count_of sheet → longest ≡ longestValue sheet
+    pub longest-end : n ≤ p.entry → n ≡ countOf sheet → longest ≡ longestValue sheet
     unfolding longestValue
-    longest-end h f = let k : p.entry ≡ count_of sheet = omega (arith, at.reach) in e ∙ ap (longestOf sheet) k
+    longest-end h f = let k : p.entry ≡ countOf sheet = omega (arith, at.reach) in e ∙ ap (longestOf sheet) k

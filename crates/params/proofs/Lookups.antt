@@ -18,34 +18,34 @@ use Rattle.tokenizer.specs.declared.Token.{Token}
 use Rattle.calls.specs.Refusals.{refusalNumber, refusalDetail}
 use Rattle.tokenizer.specs.Memory.{start}
 use Rattle.tokenizer.specs.Tokens.{stepAt, tokens}
-use Rattle.tokenizer.proofs.Steps.{left, step-moves, step_less, step-ends}
+use Rattle.tokenizer.proofs.Steps.{left, step-moves, step-less, step-ends}
 use Rattle.params.specs.declared.Found.{Found}
 use Rattle.params.specs.declared.Params.{Params}
 use Rattle.params.specs.declared.Part.{Part}
 use Rattle.params.specs.declared.Part.TheVariants as P
 use Rattle.params.specs.Sheet.{isSheet}
 use Rattle.params.specs.Inner.Inside.{keyEnd, PartInside}
-use Rattle.params.specs.Inner.Carried.{params_at}
-use Rattle.params.specs.Filled.{stands_for, index_after, partBytes, partLength, partStart}
+use Rattle.params.specs.Inner.Carried.{paramsAt}
+use Rattle.params.specs.Filled.{standsFor, indexAfter, partBytes, partLength, partStart}
 use Rattle.params.specs.Answers.{checkedWith, nothingFound, foundFor, foundFirst, found_at, lookupFound, lookupPart, lookupCounter, lookupNumber, lookupDetail}
 use Rattle.params.proofs.TokensInside.{step-inside, step-key, stands-inside}
 
 -- ---- one token
 
-module _ (s sheet : List ℕ) (counter : ℕ) (t : Token) (params : Params) (at : params ≡ params_at sheet counter) where
-  index_is : params.index ≡ counter
-  unfolding params_at
-  index_is = ap (λ (q : Params). q.index) at
+module _ (s sheet : List ℕ) (counter : ℕ) (t : Token) (params : Params) (at : params ≡ paramsAt sheet counter) where
+  index-is : params.index ≡ counter
+  unfolding paramsAt
+  index-is = ap (λ (q : Params). q.index) at
 
-  pub found_turn : params ≡ params_at sheet params.index
-  found_turn = at ∙ ap (params_at sheet) (sym index_is)
+  pub found-turn : params ≡ paramsAt sheet params.index
+  found-turn = at ∙ ap (paramsAt sheet) (sym index-is)
 
-  pub found-told : (p : Part) (past : Params) → p ≡ stands_for s sheet params.index t → past ≡ params_at sheet (index_after s sheet params.index t)
+  pub found-told : (p : Part) (past : Params) → p ≡ standsFor s sheet params.index t → past ≡ paramsAt sheet (indexAfter s sheet params.index t)
       → ◌≡◌ {A = Found} (record { part = p; counter = past.index }) (foundFor s sheet counter t)
-  unfolding params_at
+  unfolding paramsAt
   found-told p past e f =
-      let g : past.index ≡ index_after s sheet params.index t = ap (λ (q : Params). q.index) f in
-      rw (e, g, index_is)
+      let g : past.index ≡ indexAfter s sheet params.index t = ap (λ (q : Params). q.index) f in
+      rw (e, g, index-is)
 
 -- ---- the token at a place: so many more are ahead of it
 
@@ -63,7 +63,7 @@ module _ (settings : Settings) (s : List ℕ) (place : ℕ) where
       find-key = step-key settings s c t c' (sym e ∙ f)
 
       pub find-less : length s - c'.at < length s - c.at
-      find-less = step_less settings s c r t c' e f
+      find-less = step-less settings s c r t c' e f
 
       here : drop place (tokens settings s) ≡ drop ahead (t ∷ left settings s c')
       here = at.rest ∙ ap (drop ahead) (step-moves settings s c t c' (sym e ∙ f)).list
@@ -80,19 +80,19 @@ module _ (settings : Settings) (s : List ℕ) (place : ℕ) where
         unfolding found_at foundFirst
         find-found = g ∙ sym (ap (foundFirst s sheet counter) (here ∙ ap (λ (k : ℕ). drop k (t ∷ left settings s c')) z))
 
-        pub found_inside : isSheet sheet ≡ true → PartInside s sheet found.part
-        found_inside good =
-            let p : found.part ≡ stands_for s sheet counter t = ap (λ (q : Found). q.part) g in
+        pub found-inside : isSheet sheet ≡ true → PartInside s sheet found.part
+        found-inside good =
+            let p : found.part ≡ standsFor s sheet counter t = ap (λ (q : Found). q.part) g in
             rw p (stands-inside s sheet good t (step-inside settings s c t c' (sym e ∙ f)) counter)
 
     module _ (f : r ≡ S.Done) (sheet : List ℕ) (counter : ℕ) (found : Found) (g : found ≡ nothingFound counter) where
-      pub find_none : found ≡ found_at settings s sheet place counter
+      pub find-none : found ≡ found_at settings s sheet place counter
       unfolding found_at foundFirst
-      find_none = g ∙ sym (ap (foundFirst s sheet counter) (at.rest ∙ ap (drop ahead) (step-ends settings s c (sym e ∙ f)) ∙ drop-nil ahead))
+      find-none = g ∙ sym (ap (foundFirst s sheet counter) (at.rest ∙ ap (drop ahead) (step-ends settings s c (sym e ∙ f)) ∙ drop-nil ahead))
 
-      pub none_inside : PartInside s sheet found.part
+      pub none-inside : PartInside s sheet found.part
       unfolding nothingFound
-      none_inside = let p : found.part ≡ (nothingFound counter).part = ap (λ (q : Found). q.part) g in rw p zero-le
+      none-inside = let p : found.part ≡ (nothingFound counter).part = ap (λ (q : Found). q.part) g in rw p zero-le
 
 -- ---- what is told
 
@@ -126,17 +126,17 @@ module _ (s : List ℕ) (dialect joins named : ℕ) (sheet : List ℕ) (r : Chec
     refused-number n f = f ∙ rw (← e, k)
 
     module _ (place counter : ℕ) where
-      nothing_is : nothingFound counter ≡ lookupFound s dialect joins named sheet place counter
+      nothing-is : nothingFound counter ≡ lookupFound s dialect joins named sheet place counter
       unfolding lookupFound
-      nothing_is = rw (← e, k)
+      nothing-is = rw (← e, k)
 
       pub refused-part : P.Statement 0 0 ≡ lookupPart s dialect joins named sheet place counter
       unfolding nothingFound
-      refused-part = ap (λ (q : Found). q.part) nothing_is
+      refused-part = ap (λ (q : Found). q.part) nothing-is
 
       pub refused-counter : counter ≡ lookupCounter s dialect joins named sheet place counter
       unfolding nothingFound
-      refused-counter = ap (λ (q : Found). q.counter) nothing_is
+      refused-counter = ap (λ (q : Found). q.counter) nothing-is
 
       pub refused-detail : (n : ℕ) → n ≡ refusalDetail refusal → n ≡ lookupDetail s dialect joins named sheet place counter
       unfolding lookupDetail

@@ -18,7 +18,7 @@ use Rattle.tokenizer.specs.Values.{value}
 use Rattle.calls.proofs.Storing.{back}
 use Rattle.params.specs.Sheet.{isSheet}
 use Rattle.params.specs.Get.{ownText}
-use Rattle.params.specs.Filled.{isPlaceholder, stands_for, partBytes, partLength, partStart}
+use Rattle.params.specs.Filled.{isPlaceholder, standsFor, partBytes, partLength, partStart}
 use Rattle.params.specs.Inner.Inside.{PartInside}
 use Rattle.params.proofs.TokensInside.{stands-inside}
 
@@ -65,34 +65,34 @@ module _ (start len : ℕ) where
         sheet-room output at k = rw e at k
 
 -- what stands for a token, put
-module _ (s sheet output : List ℕ) (at : ℕ) (index : ℕ) (t : Token) (p : Part) (e : p ≡ stands_for s sheet index t) where
+module _ (s sheet output : List ℕ) (at : ℕ) (index : ℕ) (t : Token) (p : Part) (e : p ≡ standsFor s sheet index t) where
   module _ (good : isSheet sheet ≡ true) (h : t.start + t.len ≤ length s) where
     pub for-inside : PartInside s sheet p
     for-inside = rw e (stands-inside s sheet good t h index)
 
-  pub for-room : at + partLength (stands_for s sheet index t) ≤ length output → at + partLength p ≤ length output
+  pub for-room : at + partLength (standsFor s sheet index t) ≤ length output → at + partLength p ≤ length output
   for-room k = rw e k
 
-  pub for-fits : (n : ℕ) → n ≡ partLength p → at + partLength (stands_for s sheet index t) ≤ length output → length output < 2 ^ 64 → Fits w64 (at + n)
+  pub for-fits : (n : ℕ) → n ≡ partLength p → at + partLength (standsFor s sheet index t) ≤ length output → length output < 2 ^ 64 → Fits w64 (at + n)
   for-fits n f k l = let m : at + partLength p ≤ length output = for-room k in record { fits = omega (arith, m, f) }
 
-  pub for-length : (n : ℕ) → n ≡ partLength p → at + n ≡ at + partLength (stands_for s sheet index t)
+  pub for-length : (n : ℕ) → n ≡ partLength p → at + n ≡ at + partLength (standsFor s sheet index t)
   for-length n f = rw (f, e)
 
-  pub for-put : (after : List ℕ) → after ≡ sets output at (partBytes s sheet p) → after ≡ sets output at (partBytes s sheet (stands_for s sheet index t))
+  pub for-put : (after : List ℕ) → after ≡ sets output at (partBytes s sheet p) → after ≡ sets output at (partBytes s sheet (standsFor s sheet index t))
   for-put after f = f ∙ rw e
 
 -- a token that is no placeholder stands for itself
 module _ (s sheet output : List ℕ) (at : ℕ) (index : ℕ) (t : Token) (k : Bool) (e : k ≡ isKind t.kind Placeholder) (n : k ≡ false) where
-  itself : stands_for s sheet index t ≡ ownText t
-  unfolding stands_for isPlaceholder
+  itself : standsFor s sheet index t ≡ ownText t
+  unfolding standsFor isPlaceholder
   itself = rw (← e, n)
 
-  pub value_room : at + partLength (stands_for s sheet index t) ≤ length output → at + t.len ≤ length output
-  value_room h = rw itself at h
+  pub value-room : at + partLength (standsFor s sheet index t) ≤ length output → at + t.len ≤ length output
+  value-room h = rw itself at h
 
-  pub value-length : at + t.len ≡ at + partLength (stands_for s sheet index t)
+  pub value-length : at + t.len ≡ at + partLength (standsFor s sheet index t)
   value-length = rw itself
 
-  pub value-put : (after : List ℕ) → after ≡ sets output at (value s t) → after ≡ sets output at (partBytes s sheet (stands_for s sheet index t))
+  pub value-put : (after : List ℕ) → after ≡ sets output at (value s t) → after ≡ sets output at (partBytes s sheet (standsFor s sheet index t))
   value-put after f = f ∙ rw itself

@@ -13,27 +13,27 @@ use mir.Val.{Fits}
 use Rattle.characters.specs.declared.IllFormed.{IllFormed}
 use Rattle.characters.specs.declared.IllFormed.TheVariants.{At, Nowhere}
 use Rattle.characters.specs.Utf8.{wellFormedFrom, firstIllFormed, wellFormed}
-use Rattle.calls.specs.LittleEndian.{number_at}
+use Rattle.calls.specs.LittleEndian.{numberAt}
 use Rattle.params.specs.declared.Lengths.{Lengths}
 use Rattle.params.specs.declared.Place.{Place}
 use Rattle.params.specs.declared.QueryParams.TheVariants.{None, Named, Indexed}
-use Rattle.params.specs.Sheet.{kind_of, params_of, count_of, isNamed, width, lengthsAt, past, place_of, isKindAndCount}
+use Rattle.params.specs.Sheet.{kindOf, paramsOf, countOf, isNamed, width, lengthsAt, past, placeOf, isKindAndCount}
 
 module _ (sheet : List ℕ) where
-  pub named-params : get_or sheet 0 0 ≡ 1 → Named ≡ params_of sheet
-  unfolding params_of kind_of
+  pub named-params : get_or sheet 0 0 ≡ 1 → Named ≡ paramsOf sheet
+  unfolding paramsOf kindOf
   named-params e = rw (eq-eqb _ _ e)
 
-  pub indexed-params : get_or sheet 0 0 ≡ 2 → Indexed ≡ params_of sheet
-  unfolding params_of kind_of
+  pub indexed-params : get_or sheet 0 0 ≡ 2 → Indexed ≡ paramsOf sheet
+  unfolding paramsOf kindOf
   indexed-params e = rw e
 
-  pub no-params : (get_or sheet 0 0 ≡ 1 → ⊥) → (get_or sheet 0 0 ≡ 2 → ⊥) → None ≡ params_of sheet
-  unfolding params_of kind_of
+  pub no-params : (get_or sheet 0 0 ≡ 1 → ⊥) → (get_or sheet 0 0 ≡ 2 → ⊥) → None ≡ paramsOf sheet
+  unfolding paramsOf kindOf
   no-params e f = rw (ne_eqb _ _ e, ne_eqb _ _ f)
 
-  pub count-is : (n : ℕ) → n ≡ number_at 2 sheet 1 → n ≡ count_of sheet
-  unfolding count_of
+  pub count-is : (n : ℕ) → n ≡ numberAt 2 sheet 1 → n ≡ countOf sheet
+  unfolding countOf
   count-is n e = e
 
   -- ---- the width of an entry's lengths
@@ -67,8 +67,8 @@ module _ (sheet : List ℕ) where
   pub bodies-fit : (n w : ℕ) → n < 65536 → w ≡ width sheet → Fits w64 (3 + n * w)
   bodies-fit n w h e = record { fits = omega (arith, bodies-product n w h e) }
 
-  pub first-is : (n w : ℕ) → n ≡ count_of sheet → w ≡ width sheet → ◌≡◌ {A = Place} (record { entry = 0; lengths = 3; body = 3 + n * w }) (place_of sheet 0)
-  unfolding place_of
+  pub first-is : (n w : ℕ) → n ≡ countOf sheet → w ≡ width sheet → ◌≡◌ {A = Place} (record { entry = 0; lengths = 3; body = 3 + n * w }) (placeOf sheet 0)
+  unfolding placeOf
   first-is n w e f = rw (e, f)
 
   -- ---- the lengths at a place
@@ -81,38 +81,38 @@ module _ (sheet : List ℕ) where
       pub named-room : b ≡ true → p.lengths + width sheet ≤ length sheet → p.lengths + 2 ≤ length sheet
       named-room f h = omega (arith, named-width b e f)
 
-      pub value_room : b ≡ true → p.lengths + width sheet ≤ length sheet → p.lengths + 2 + 2 ≤ length sheet
-      value_room f h = omega (arith, named-width b e f)
+      pub value-room : b ≡ true → p.lengths + width sheet ≤ length sheet → p.lengths + 2 + 2 ≤ length sheet
+      value-room f h = omega (arith, named-width b e f)
 
       pub unnamed-room : b ≡ false → p.lengths + width sheet ≤ length sheet → p.lengths + 2 ≤ length sheet
       unnamed-room f h = omega (arith, unnamed-width b e f)
 
-      pub named-lengths : (n v : ℕ) → b ≡ true → n ≡ number_at 2 sheet p.lengths → v ≡ number_at 2 sheet (p.lengths + 2) → ◌≡◌ {A = Lengths} (record { name = n; value = v }) (lengthsAt sheet p)
+      pub named-lengths : (n v : ℕ) → b ≡ true → n ≡ numberAt 2 sheet p.lengths → v ≡ numberAt 2 sheet (p.lengths + 2) → ◌≡◌ {A = Lengths} (record { name = n; value = v }) (lengthsAt sheet p)
       unfolding lengthsAt
       named-lengths n v f g h = rw (← e, f, g, h)
 
-      pub unnamed-lengths : (v : ℕ) → b ≡ false → v ≡ number_at 2 sheet p.lengths → ◌≡◌ {A = Lengths} (record { name = 0; value = v }) (lengthsAt sheet p)
+      pub unnamed-lengths : (v : ℕ) → b ≡ false → v ≡ numberAt 2 sheet p.lengths → ◌≡◌ {A = Lengths} (record { name = 0; value = v }) (lengthsAt sheet p)
       unfolding lengthsAt
       unnamed-lengths v f g = rw (← e, f, g)
 
-    pub past_is : (l : Lengths) (w : ℕ) → l ≡ lengthsAt sheet p → w ≡ width sheet
+    pub past-is : (l : Lengths) (w : ℕ) → l ≡ lengthsAt sheet p → w ≡ width sheet
         → ◌≡◌ {A = Place} (record { entry = p.entry + 1; lengths = p.lengths + w; body = p.body + l.name + l.value }) (past sheet p)
     unfolding past
-    past_is l w e f = rw (e, f)
+    past-is l w e f = rw (e, f)
 
   -- ---- kind and count
 
   pub high-kind : 2 < get_or sheet 0 0 → false ≡ isKindAndCount sheet
-  unfolding isKindAndCount kind_of
+  unfolding isKindAndCount kindOf
   high-kind h = rw (lt-leb _ _ h)
 
   pub some-kind : get_or sheet 0 0 ≤ 2 → 1 ≤ get_or sheet 0 0 → true ≡ isKindAndCount sheet
-  unfolding isKindAndCount kind_of
+  unfolding isKindAndCount kindOf
   some-kind h k = rw (le-leb _ _ h, le-leb _ _ k)
 
-  pub no_kind : (n : ℕ) → get_or sheet 0 0 ≤ 2 → get_or sheet 0 0 < 1 → n ≡ count_of sheet → eqb n 0 ≡ isKindAndCount sheet
-  unfolding isKindAndCount kind_of
-  no_kind n h k e = rw (le-leb _ _ h, lt-leb _ _ k, e)
+  pub no-kind : (n : ℕ) → get_or sheet 0 0 ≤ 2 → get_or sheet 0 0 < 1 → n ≡ countOf sheet → eqb n 0 ≡ isKindAndCount sheet
+  unfolding isKindAndCount kindOf
+  no-kind n h k e = rw (le-leb _ _ h, lt-leb _ _ k, e)
 
 -- ---- UTF-8
 

@@ -27,11 +27,11 @@ use Rattle.tokenizer.proofs.NextPieceSizes.{piece-sized}
 use Rattle.tokenizer.proofs.Steps.{step-moves}
 use Rattle.params.specs.declared.Part.{Part}
 use Rattle.params.specs.declared.Part.TheVariants as P
-use Rattle.params.specs.Sheet.{count_of, lengthsAt, place_of, isSheet}
+use Rattle.params.specs.Sheet.{countOf, lengthsAt, placeOf, isSheet}
 use Rattle.params.specs.Inner.Inside.{keyEnd, PartInside}
 use Rattle.params.specs.Get.{taken, valuePart, valueOr, get}
-use Rattle.params.specs.Filled.{isPlaceholder, stands_for, partBytes, partLength}
-use Rattle.params.proofs.EntriesInside.{at-end, stands, entry_of}
+use Rattle.params.specs.Filled.{isPlaceholder, standsFor, partBytes, partLength}
+use Rattle.params.proofs.EntriesInside.{at-end, stands, entry-of}
 
 key-ends : (at n : ℕ) (key : Key) → KeyFits n key → keyEnd (placed at key) ≤ at + n
 key-ends at n K.None h = zero-le
@@ -63,22 +63,22 @@ module _ (settings : Settings) (s : List ℕ) (c : Cursor) (t : Token) (c' : Cur
 module _ (s sheet : List ℕ) (good : isSheet sheet ≡ true) (t : Token) (inside : t.start + t.len ≤ length s) where
   value-inside : (n : ℕ) → PartInside s sheet (valueOr sheet n t)
   unfolding valueOr valuePart
-  value-inside n = go (ltb n (count_of sheet)) refl
+  value-inside n = go (ltb n (countOf sheet)) refl
     where
-      go : (b : Bool) → ltb n (count_of sheet) ≡ b → PartInside s sheet (valueOr sheet n t)
+      go : (b : Bool) → ltb n (countOf sheet) ≡ b → PartInside s sheet (valueOr sheet n t)
       go true e =
-          let h : n < count_of sheet = ltb-true n (count_of sheet) e in
-          let f : (place_of sheet n).entry ≡ n = entry_of sheet (place_of sheet n) n refl in
-          let k : (place_of sheet n).body + (lengthsAt sheet (place_of sheet n)).name + (lengthsAt sheet (place_of sheet n)).value ≤ length sheet
-          = at-end sheet good (place_of sheet n) (stands sheet (place_of sheet n) n refl) (count_of sheet) (omega (arith, f)) (omega arith) in
+          let h : n < countOf sheet = ltb-true n (countOf sheet) e in
+          let f : (placeOf sheet n).entry ≡ n = entry-of sheet (placeOf sheet n) n refl in
+          let k : (placeOf sheet n).body + (lengthsAt sheet (placeOf sheet n)).name + (lengthsAt sheet (placeOf sheet n)).value ≤ length sheet
+          = at-end sheet good (placeOf sheet n) (stands sheet (placeOf sheet n) n refl) (countOf sheet) (omega (arith, f)) (omega arith) in
           rw e k
       go false e = rw e inside
 
-  pub stands-inside : (index : ℕ) → PartInside s sheet (stands_for s sheet index t)
-  unfolding stands_for get
+  pub stands-inside : (index : ℕ) → PartInside s sheet (standsFor s sheet index t)
+  unfolding standsFor get
   stands-inside index = go (isPlaceholder t) refl
     where
-      go : (b : Bool) → isPlaceholder t ≡ b → PartInside s sheet (stands_for s sheet index t)
+      go : (b : Bool) → isPlaceholder t ≡ b → PartInside s sheet (standsFor s sheet index t)
       go true e = rw e (value-inside (taken s sheet index t.key))
       go false e = rw e inside
 

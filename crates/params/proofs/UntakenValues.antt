@@ -21,33 +21,33 @@ use Rattle.tokenizer.specs.Tokens.{tokens}
 use Rattle.calls.specs.Texts.{textAnswer, textAfter, callAnswer, callOutput}
 use Rattle.params.specs.declared.QueryParams.{QueryParams}
 use Rattle.params.specs.declared.QueryParams.TheVariants as Q
-use Rattle.params.specs.Sheet.{kind_of, params_of, count_of, place_of, name_of, value_at, value_of, isSheet}
+use Rattle.params.specs.Sheet.{kindOf, paramsOf, countOf, placeOf, nameOf, valueAt, valueOf, isSheet}
 use Rattle.params.specs.Get.{firstNamed, withName, byName, byIndex, takenFrom, taken, valuePart, valueOr, get, indexPast}
-use Rattle.params.specs.Filled.{isPlaceholder, stands_for, index_after, partBytes, filledFrom, filled}
+use Rattle.params.specs.Filled.{isPlaceholder, standsFor, indexAfter, partBytes, filledFrom, filled}
 use Rattle.params.specs.Answers.{checkedWith, fillAnswer, fillOutput}
 
 -- the values that the placeholders among these tokens take from sheet a, from a counter on, are the same in sheet b
 abbrev pub TakenAgree : List ℕ → List ℕ → List ℕ → ℕ → List Token → Type 0
 TakenAgree s a b index [] = Unit {0}
 TakenAgree s a b index (t ∷ ts) =
-    (isPlaceholder t ≡ true → taken s a index t.key < count_of a → value_of a (taken s a index t.key) ≡ value_of b (taken s a index t.key))
-    × TakenAgree s a b (index_after s a index t) ts
+    (isPlaceholder t ≡ true → taken s a index t.key < countOf a → valueOf a (taken s a index t.key) ≡ valueOf b (taken s a index t.key))
+    × TakenAgree s a b (indexAfter s a index t) ts
 
-module _ (s a b : List ℕ) (kind : kind_of a ≡ kind_of b) (count : count_of a ≡ count_of b) (names : (n : ℕ) → n < count_of a → name_of a n ≡ name_of b n) where
-  same_params : params_of a ≡ params_of b
-  unfolding params_of
-  same_params = rw kind
+module _ (s a b : List ℕ) (kind : kindOf a ≡ kindOf b) (count : countOf a ≡ countOf b) (names : (n : ℕ) → n < countOf a → nameOf a n ≡ nameOf b n) where
+  same-params : paramsOf a ≡ paramsOf b
+  unfolding paramsOf
+  same-params = rw kind
 
-  same_first : (text : List ℕ) (left n : ℕ) → n + left ≡ count_of a → firstNamed a text n left ≡ firstNamed b text n left
+  same-first : (text : List ℕ) (left n : ℕ) → n + left ≡ countOf a → firstNamed a text n left ≡ firstNamed b text n left
   unfolding firstNamed
-  same_first text zero n h = refl
-  same_first text (suc left) n h =
+  same-first text zero n h = refl
+  same-first text (suc left) n h =
       ap (λ (name : List ℕ). cond (same name text) n (firstNamed a text (suc n) left)) (names n (omega arith))
-      ∙ ap (λ (m : ℕ). cond (same (name_of b n) text) n m) (same_first text left (suc n) (omega arith))
+      ∙ ap (λ (m : ℕ). cond (same (nameOf b n) text) n m) (same-first text left (suc n) (omega arith))
 
   same-named : (text : List ℕ) → withName a text ≡ withName b text
   unfolding withName
-  same-named text = same_first text (count_of a) 0 (omega arith) ∙ ap (firstNamed b text 0) count
+  same-named text = same-first text (countOf a) 0 (omega arith) ∙ ap (firstNamed b text 0) count
 
   same-by-name : (key : Key) → byName s a key ≡ byName s b key
   unfolding byName
@@ -60,46 +60,46 @@ module _ (s a b : List ℕ) (kind : kind_of a ≡ kind_of b) (count : count_of a
   same-by-index index (K.ZeroIndexed n) = refl
   same-by-index index (K.OneIndexed n) = rw count
 
-  same_from : (q : QueryParams) (index : ℕ) (key : Key) → takenFrom q s a index key ≡ takenFrom q s b index key
-  same_from Q.Named index key = same-by-name key
-  same_from Q.Indexed index key = rw (count, same-by-index index key)
-  same_from Q.None index key = count
+  same-from : (q : QueryParams) (index : ℕ) (key : Key) → takenFrom q s a index key ≡ takenFrom q s b index key
+  same-from Q.Named index key = same-by-name key
+  same-from Q.Indexed index key = rw (count, same-by-index index key)
+  same-from Q.None index key = count
 
-  same_taken : (index : ℕ) (key : Key) → taken s a index key ≡ taken s b index key
+  same-taken : (index : ℕ) (key : Key) → taken s a index key ≡ taken s b index key
   unfolding taken
-  same_taken index key = same_from (params_of a) index key ∙ ap (λ (q : QueryParams). takenFrom q s b index key) same_params
+  same-taken index key = same-from (paramsOf a) index key ∙ ap (λ (q : QueryParams). takenFrom q s b index key) same-params
 
-  same_after : (index : ℕ) (t : Token) → index_after s a index t ≡ index_after s b index t
-  unfolding index_after indexPast
-  same_after index t = rw same_params
+  same-after : (index : ℕ) (t : Token) → indexAfter s a index t ≡ indexAfter s b index t
+  unfolding indexAfter indexPast
+  same-after index t = rw same-params
 
-  value-bytes : (sheet : List ℕ) (n : ℕ) → partBytes s sheet (valuePart sheet (place_of sheet n)) ≡ value_of sheet n
-  unfolding valuePart value_of value_at
+  value-bytes : (sheet : List ℕ) (n : ℕ) → partBytes s sheet (valuePart sheet (placeOf sheet n)) ≡ valueOf sheet n
+  unfolding valuePart valueOf valueAt
   value-bytes sheet n = refl
 
-  same-value : (n : ℕ) (t : Token) → (n < count_of a → value_of a n ≡ value_of b n) → partBytes s a (valueOr a n t) ≡ partBytes s b (valueOr b n t)
+  same-value : (n : ℕ) (t : Token) → (n < countOf a → valueOf a n ≡ valueOf b n) → partBytes s a (valueOr a n t) ≡ partBytes s b (valueOr b n t)
   unfolding valueOr
-  same-value n t h = go (ltb n (count_of a)) refl
+  same-value n t h = go (ltb n (countOf a)) refl
     where
-      go : (x : Bool) → ltb n (count_of a) ≡ x → partBytes s a (valueOr a n t) ≡ partBytes s b (valueOr b n t)
-      go true e = rw (← count, e) (value-bytes a n ∙ h (ltb-true n (count_of a) e) ∙ sym (value-bytes b n))
+      go : (x : Bool) → ltb n (countOf a) ≡ x → partBytes s a (valueOr a n t) ≡ partBytes s b (valueOr b n t)
+      go true e = rw (← count, e) (value-bytes a n ∙ h (ltb-true n (countOf a) e) ∙ sym (value-bytes b n))
       go false e = rw (← count, e)
 
-  same-stands : (index : ℕ) (t : Token) → (isPlaceholder t ≡ true → taken s a index t.key < count_of a → value_of a (taken s a index t.key) ≡ value_of b (taken s a index t.key))
-      → partBytes s a (stands_for s a index t) ≡ partBytes s b (stands_for s b index t)
-  unfolding stands_for get
+  same-stands : (index : ℕ) (t : Token) → (isPlaceholder t ≡ true → taken s a index t.key < countOf a → valueOf a (taken s a index t.key) ≡ valueOf b (taken s a index t.key))
+      → partBytes s a (standsFor s a index t) ≡ partBytes s b (standsFor s b index t)
+  unfolding standsFor get
   same-stands index t h = go (isPlaceholder t) refl
     where
-      go : (x : Bool) → isPlaceholder t ≡ x → partBytes s a (stands_for s a index t) ≡ partBytes s b (stands_for s b index t)
-      go true e = rw e (same-value (taken s a index t.key) t (h e) ∙ ap (λ (n : ℕ). partBytes s b (valueOr b n t)) (same_taken index t.key))
+      go : (x : Bool) → isPlaceholder t ≡ x → partBytes s a (standsFor s a index t) ≡ partBytes s b (standsFor s b index t)
+      go true e = rw e (same-value (taken s a index t.key) t (h e) ∙ ap (λ (n : ℕ). partBytes s b (valueOr b n t)) (same-taken index t.key))
       go false e = rw e
 
   same-filled : (ts : List Token) (index : ℕ) → TakenAgree s a b index ts → filledFrom s a index ts ≡ filledFrom s b index ts
   unfolding filledFrom
   same-filled [] index h = refl
   same-filled (t ∷ ts) index h =
-      ap (λ (l : List ℕ). l ++ filledFrom s a (index_after s a index t) ts) (same-stands index t h.0)
-      ∙ ap (λ (l : List ℕ). partBytes s b (stands_for s b index t) ++ l) (same-filled ts (index_after s a index t) h.1 ∙ ap (λ (i : ℕ). filledFrom s b i ts) (same_after index t))
+      ap (λ (l : List ℕ). l ++ filledFrom s a (indexAfter s a index t) ts) (same-stands index t h.0)
+      ∙ ap (λ (l : List ℕ). partBytes s b (standsFor s b index t) ++ l) (same-filled ts (indexAfter s a index t) h.1 ∙ ap (λ (i : ℕ). filledFrom s b i ts) (same-after index t))
 
   module _ (good-a : isSheet a ≡ true) (good-b : isSheet b ≡ true) (dialect joins named : ℕ)
       (agree : (settings : Settings) → checked dialect joins named s ≡ Accepted settings → TakenAgree s a b 0 (tokens settings s)) where

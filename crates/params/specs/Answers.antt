@@ -14,7 +14,7 @@ use Rattle.params.specs.declared.Found.{Found}
 use Rattle.params.specs.declared.Part.{Part}
 use Rattle.params.specs.declared.Part.TheVariants as P
 use Rattle.params.specs.Sheet.{isSheet}
-use Rattle.params.specs.Filled.{stands_for, index_after, partBytes, partLength, partStart, filled}
+use Rattle.params.specs.Filled.{standsFor, indexAfter, partBytes, partLength, partStart, filled}
 
 -- a malformed sheet is refused once the statement and the settings are accepted
 abbrev pub withSheet : List ℕ → Checked → Checked
@@ -42,7 +42,7 @@ nothingFound counter = record { part = P.Statement 0 0; counter = counter }
 
 -- what stands for a token, and the counter past it
 abbrev pub foundFor : List ℕ → List ℕ → ℕ → Token → Found
-foundFor s sheet counter t = record { part = stands_for s sheet counter t; counter = index_after s sheet counter t }
+foundFor s sheet counter t = record { part = standsFor s sheet counter t; counter = indexAfter s sheet counter t }
 
 -- the same of the first of these tokens
 unfoldable pub foundFirst : List ℕ → List ℕ → ℕ → List Token → Found

@@ -13,11 +13,11 @@ unfoldable pub isPlaceholder : Token → Bool
 isPlaceholder t = isKind t.kind K.Placeholder
 
 -- what stands for a token, and the counter past it
-unfoldable pub stands_for : List ℕ → List ℕ → ℕ → Token → Part
-stands_for s sheet index t = cond (isPlaceholder t) (get s sheet index t) (ownText t)
+unfoldable pub standsFor : List ℕ → List ℕ → ℕ → Token → Part
+standsFor s sheet index t = cond (isPlaceholder t) (get s sheet index t) (ownText t)
 
-unfoldable pub index_after : List ℕ → List ℕ → ℕ → Token → ℕ
-index_after s sheet index t = cond (isPlaceholder t) (indexPast s sheet index t.key) index
+unfoldable pub indexAfter : List ℕ → List ℕ → ℕ → Token → ℕ
+indexAfter s sheet index t = cond (isPlaceholder t) (indexPast s sheet index t.key) index
 
 -- the bytes of a part of the statement or of the sheet
 abbrev pub partBytes : List ℕ → List ℕ → Part → List ℕ
@@ -35,12 +35,12 @@ partStart s sheet (Sheet start len) = (sheet.0, start + sheet.1)
 
 -- the bytes that stand for a token
 abbrev pub bytesFor : List ℕ → List ℕ → ℕ → Token → List ℕ
-bytesFor s sheet index t = partBytes s sheet (stands_for s sheet index t)
+bytesFor s sheet index t = partBytes s sheet (standsFor s sheet index t)
 
 -- the text of these tokens, from a counter on
 unfoldable pub filledFrom : List ℕ → List ℕ → ℕ → List Token → List ℕ
 filledFrom s sheet index [] = []
-filledFrom s sheet index (t ∷ ts) = bytesFor s sheet index t ++ filledFrom s sheet (index_after s sheet index t) ts
+filledFrom s sheet index (t ∷ ts) = bytesFor s sheet index t ++ filledFrom s sheet (indexAfter s sheet index t) ts
 
 unfoldable pub filled : Settings → List ℕ → List ℕ → List ℕ
 filled settings s sheet = filledFrom s sheet 0 (tokens settings s)

@@ -10,22 +10,22 @@ use Rattle.params.specs.declared.Part.TheVariants as P
 use Rattle.params.specs.declared.Place.{Place}
 use Rattle.params.specs.declared.QueryParams.{QueryParams}
 use Rattle.params.specs.declared.QueryParams.TheVariants as Q
-use Rattle.params.specs.Sheet.{params_of, count_of, lengthsAt, place_of, name_of}
-use Rattle.params.specs.Keys.{has_key, hasName, hasNoIndex}
+use Rattle.params.specs.Sheet.{paramsOf, countOf, lengthsAt, placeOf, nameOf}
+use Rattle.params.specs.Keys.{hasKey, hasName, hasNoIndex}
 
 -- ---- which entry is taken: its number, or the count or more where none is
 
 -- the first entry with this name among `left` entries from number n on, else the number behind them
 unfoldable pub firstNamed : List ℕ → List ℕ → ℕ → ℕ → ℕ
 firstNamed sheet text n zero = n
-firstNamed sheet text n (suc left) = cond (same (name_of sheet n) text) n (firstNamed sheet text (suc n) left)
+firstNamed sheet text n (suc left) = cond (same (nameOf sheet n) text) n (firstNamed sheet text (suc n) left)
 
 unfoldable pub withName : List ℕ → List ℕ → ℕ
-withName sheet text = firstNamed sheet text 0 (count_of sheet)
+withName sheet text = firstNamed sheet text 0 (countOf sheet)
 
 -- an index has the empty text as its name
 unfoldable pub byName : List ℕ → List ℕ → Key → ℕ
-byName s sheet key = cond (has_key key) (withName sheet (keyText s key)) (count_of sheet)
+byName s sheet key = cond (hasKey key) (withName sheet (keyText s key)) (countOf sheet)
 
 -- by the index, else the next in turn; a one-indexed zero counts as past the end
 abbrev pub byIndex : List ℕ → ℕ → Key → ℕ
@@ -33,15 +33,15 @@ byIndex sheet index K.None = index
 byIndex sheet index (K.Named start len) = index
 byIndex sheet index (K.Escaped start len) = index
 byIndex sheet index (K.ZeroIndexed n) = n
-byIndex sheet index (K.OneIndexed n) = cond (eqb n 0) (count_of sheet) (n - 1)
+byIndex sheet index (K.OneIndexed n) = cond (eqb n 0) (countOf sheet) (n - 1)
 
 abbrev pub takenFrom : QueryParams → List ℕ → List ℕ → ℕ → Key → ℕ
 takenFrom Q.Named s sheet index key = byName s sheet key
-takenFrom Q.Indexed s sheet index key = cond (hasName s key) (count_of sheet) (byIndex sheet index key)
-takenFrom Q.None s sheet index key = count_of sheet
+takenFrom Q.Indexed s sheet index key = cond (hasName s key) (countOf sheet) (byIndex sheet index key)
+takenFrom Q.None s sheet index key = countOf sheet
 
 unfoldable pub taken : List ℕ → List ℕ → ℕ → Key → ℕ
-taken s sheet index key = takenFrom (params_of sheet) s sheet index key
+taken s sheet index key = takenFrom (paramsOf sheet) s sheet index key
 
 -- ---- what stands for the placeholder
 
@@ -55,7 +55,7 @@ valuePart sheet p = P.Sheet (p.body + (lengthsAt sheet p).name) (lengthsAt sheet
 
 -- the value of entry number n, or the text of the token where there is no such entry
 unfoldable pub valueOr : List ℕ → ℕ → Token → Part
-valueOr sheet n t = cond (ltb n (count_of sheet)) (valuePart sheet (place_of sheet n)) (ownText t)
+valueOr sheet n t = cond (ltb n (countOf sheet)) (valuePart sheet (placeOf sheet n)) (ownText t)
 
 unfoldable pub get : List ℕ → List ℕ → ℕ → Token → Part
 get s sheet index t = valueOr sheet (taken s sheet index t.key) t
@@ -76,4 +76,4 @@ indexFrom Q.Indexed s index key = cond (hasName s key) index (cond (hasNoIndex k
 indexFrom Q.None s index key = index
 
 unfoldable pub indexPast : List ℕ → List ℕ → ℕ → Key → ℕ
-indexPast s sheet index key = indexFrom (params_of sheet) s index key
+indexPast s sheet index key = indexFrom (paramsOf sheet) s index key

@@ -8,12 +8,12 @@ use Rattle.tokenizer.specs.KeyText.{keyText}
 unfoldable pub hasName : List ℕ → Key → Bool
 hasName s key = ltb 0 (length (keyText s key))
 
-abbrev pub has_key : Key → Bool
-has_key None = false
-has_key (Named start len) = true
-has_key (Escaped start len) = true
-has_key (ZeroIndexed n) = true
-has_key (OneIndexed n) = true
+abbrev pub hasKey : Key → Bool
+hasKey None = false
+hasKey (Named start len) = true
+hasKey (Escaped start len) = true
+hasKey (ZeroIndexed n) = true
+hasKey (OneIndexed n) = true
 
 -- `key.indexed()` is none
 abbrev pub hasNoIndex : Key → Bool

@@ -4,9 +4,9 @@ ghost use Rattle.params.specs.Sheet.{isSheet};
 ghost use Rattle.params.specs.Keys.{hasNoIndex};
 ghost use Rattle.params.specs.Inner.Inside.{keyEnd};
 ghost use Rattle.params.specs.Get.{byIndex, get, indexPast};
-ghost use Rattle.params.specs.Inner.Carried.{params_at};
+ghost use Rattle.params.specs.Inner.Carried.{paramsAt};
 ghost use Rattle.params.specs.Inner.Cases.{namedPart, indexedPart, indexedPast};
-ghost use Rattle.params.specs.Filled.{stands_for, index_after};
+ghost use Rattle.params.specs.Filled.{standsFor, indexAfter};
 
 use crate::keys::{has_key, has_name};
 use crate::places::{own_text, params_next, place_named, value_at, value_numbered};
@@ -61,7 +61,7 @@ fn number_of(sheet: &[u8], index: u64, key: Key) -> u64
 fn get_indexed(statement: &[u8], sheet: &[u8], params: Params, token: Token) -> Part
     requires sheet_value { isSheet sheet.now ≡ true }
     requires key_in_bounds { keyEnd token.key ≤ length statement.now }
-    requires params_value { params ≡ params_at sheet.now params.index }
+    requires params_value { params ≡ paramsAt sheet.now params.index }
     ensures { result ≡ indexedPart statement.now sheet.now params.index token }
 {
     let key = token.key;
@@ -78,7 +78,7 @@ fn get_indexed(statement: &[u8], sheet: &[u8], params: Params, token: Token) -> 
 fn get(statement: &[u8], sheet: &[u8], params: Params, token: Token) -> Part
     requires sheet_value { isSheet sheet.now ≡ true }
     requires key_in_bounds { keyEnd token.key ≤ length statement.now }
-    requires params_value { params ≡ params_at sheet.now params.index }
+    requires params_value { params ≡ paramsAt sheet.now params.index }
     ensures { result ≡ get statement.now sheet.now params.index token }
 {
     match params_of(sheet) {
@@ -91,8 +91,8 @@ fn get(statement: &[u8], sheet: &[u8], params: Params, token: Token) -> Part
 pub fn stands_for(statement: &[u8], sheet: &[u8], params: Params, token: Token) -> Part
     requires sheet_value { isSheet sheet.now ≡ true }
     requires key_in_bounds { keyEnd token.key ≤ length statement.now }
-    requires params_value { params ≡ params_at sheet.now params.index }
-    ensures { result ≡ stands_for statement.now sheet.now params.index token }
+    requires params_value { params ≡ paramsAt sheet.now params.index }
+    ensures { result ≡ standsFor statement.now sheet.now params.index token }
 {
     let kind = token.kind;
     if is_kind(kind, TokenKind::Placeholder) {
@@ -105,7 +105,7 @@ pub fn stands_for(statement: &[u8], sheet: &[u8], params: Params, token: Token) 
 fn past_indexed(statement: &[u8], sheet: &[u8], params: Params, key: Key) -> Params
     requires sheet_value { isSheet sheet.now ≡ true }
     requires key_in_bounds { keyEnd key ≤ length statement.now }
-    requires params_value { params ≡ params_at sheet.now params.index }
+    requires params_value { params ≡ paramsAt sheet.now params.index }
     ensures { result ≡ indexedPast statement.now sheet.now params.index key }
 {
     if has_name(statement, key) {
@@ -120,8 +120,8 @@ fn past_indexed(statement: &[u8], sheet: &[u8], params: Params, key: Key) -> Par
 fn past_placeholder(statement: &[u8], sheet: &[u8], params: Params, key: Key) -> Params
     requires sheet_value { isSheet sheet.now ≡ true }
     requires key_in_bounds { keyEnd key ≤ length statement.now }
-    requires params_value { params ≡ params_at sheet.now params.index }
-    ensures { result ≡ params_at sheet.now (indexPast statement.now sheet.now params.index key) }
+    requires params_value { params ≡ paramsAt sheet.now params.index }
+    ensures { result ≡ paramsAt sheet.now (indexPast statement.now sheet.now params.index key) }
 {
     match params_of(sheet) {
         QueryParams::None => params,
@@ -133,8 +133,8 @@ fn past_placeholder(statement: &[u8], sheet: &[u8], params: Params, key: Key) ->
 pub fn params_past(statement: &[u8], sheet: &[u8], params: Params, token: Token) -> Params
     requires sheet_value { isSheet sheet.now ≡ true }
     requires key_in_bounds { keyEnd token.key ≤ length statement.now }
-    requires params_value { params ≡ params_at sheet.now params.index }
-    ensures { result ≡ params_at sheet.now (index_after statement.now sheet.now params.index token) }
+    requires params_value { params ≡ paramsAt sheet.now params.index }
+    ensures { result ≡ paramsAt sheet.now (indexAfter statement.now sheet.now params.index token) }
 {
     let kind = token.kind;
     let key = token.key;

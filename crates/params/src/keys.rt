@@ -1,10 +1,10 @@
 // What is asked of a token's key: its text, with escapes undone, and its index.
 ghost use Rattle.std.specs.Prelude.{◌≡◌, ◌&&◌, ◌+◌, ◌≤◌, ◌<◌, eqb, length, drop, get_or};
 ghost use Rattle.recognisers.specs.Text.{byte};
-ghost use Rattle.recognisers.specs.Taking.{starts_with};
+ghost use Rattle.recognisers.specs.Taking.{startsWith};
 ghost use Rattle.recognisers.specs.Same.{same};
 ghost use Rattle.tokenizer.specs.KeyText.{unescaped, keyText};
-ghost use Rattle.params.specs.Keys.{has_key, hasName};
+ghost use Rattle.params.specs.Keys.{hasKey, hasName};
 ghost use Rattle.params.specs.Inner.Inside.{keyEnd};
 
 use recognisers::{Key, is_exactly, stands_at};
@@ -12,7 +12,7 @@ use recognisers::{Key, is_exactly, stands_at};
 // A backslash directly before the quote.
 fn is_escape(text: &[u8], i: usize, quote: u8) -> bool
     requires { i < length text.now }
-    ensures { result ≡ (eqb (get_or text.now i 0) (byte "\\") && starts_with quote (drop (i + 1) text.now)) }
+    ensures { result ≡ (eqb (get_or text.now i 0) (byte "\\") && startsWith quote (drop (i + 1) text.now)) }
 {
     let next = i + 1;
     if text[i] == b'\\' {
@@ -90,7 +90,7 @@ pub fn has_name(statement: &[u8], key: Key) -> bool
 }
 
 pub fn has_key(key: Key) -> bool
-    ensures { result ≡ has_key key }
+    ensures { result ≡ hasKey key }
 {
     match key {
         Key::None => false,

@@ -2,10 +2,10 @@
 ghost use Rattle.std.specs.Prelude.{◌≡◌, true, ◌+◌, ◌≤◌, ◌<◌, length};
 ghost use Rattle.recognisers.specs.Same.{same};
 ghost use Rattle.tokenizer.specs.KeyText.{keyText};
-ghost use Rattle.params.specs.Sheet.{count_of, width, lengthsAt, place_of, name_at, isSheet};
+ghost use Rattle.params.specs.Sheet.{countOf, width, lengthsAt, placeOf, nameAt, isSheet};
 ghost use Rattle.params.specs.Inner.Inside.{keyEnd};
 ghost use Rattle.params.specs.Get.{withName, ownText, valueOr, countedOn};
-ghost use Rattle.params.specs.Inner.Carried.{params_at};
+ghost use Rattle.params.specs.Inner.Carried.{paramsAt};
 
 use crate::keys::is_key_name;
 use crate::sheet::{count_of, first_place, lengths_at, place_past};
@@ -16,8 +16,8 @@ use tokenizer::Token;
 // The place of an entry by its number: one look at each entry before it.
 fn place_of(sheet: &[u8], n: usize) -> Place
     requires sheet_value { isSheet sheet.now ≡ true }
-    requires n_bound { n ≤ count_of sheet.now }
-    ensures { result ≡ place_of sheet.now n }
+    requires n_bound { n ≤ countOf sheet.now }
+    ensures { result ≡ placeOf sheet.now n }
 {
     let mut place = first_place(sheet);
     while place.entry < n {
@@ -30,7 +30,7 @@ fn is_named_at(statement: &[u8], key: Key, sheet: &[u8], place: Place) -> bool
     requires key_in_bounds { keyEnd key ≤ length statement.now }
     requires sheet_in_bounds { place.lengths + width sheet.now ≤ length sheet.now }
     requires place_in_bounds { place.body + (lengthsAt sheet.now place).name ≤ length sheet.now }
-    ensures { result ≡ same (name_at sheet.now place) (keyText statement.now key) }
+    ensures { result ≡ same (nameAt sheet.now place) (keyText statement.now key) }
 {
     let lengths = lengths_at(sheet, place);
     let start = place.body;
@@ -43,7 +43,7 @@ fn is_named_at(statement: &[u8], key: Key, sheet: &[u8], place: Place) -> bool
 pub fn place_named(statement: &[u8], key: Key, sheet: &[u8]) -> Place
     requires sheet_value { isSheet sheet.now ≡ true }
     requires key_in_bounds { keyEnd key ≤ length statement.now }
-    ensures { result ≡ place_of sheet.now (withName sheet.now (keyText statement.now key)) }
+    ensures { result ≡ placeOf sheet.now (withName sheet.now (keyText statement.now key)) }
 {
     let count = count_of(sheet);
     let mut place = first_place(sheet);
@@ -68,7 +68,7 @@ pub fn own_text(token: Token) -> Part
 // The value of the entry at a place, or the token's text behind the last entry.
 pub fn value_at(sheet: &[u8], place: Place, token: Token) -> Part
     requires sheet_value { isSheet sheet.now ≡ true }
-    requires place_value { place ≡ place_of sheet.now place.entry }
+    requires place_value { place ≡ placeOf sheet.now place.entry }
     ensures { result ≡ valueOr sheet.now place.entry token }
 {
     if place.entry < count_of(sheet) {
@@ -96,7 +96,7 @@ pub fn value_numbered(sheet: &[u8], n: u64, token: Token) -> Part
 // The counter at a number, and the value that is next in turn there.
 pub fn params_at(sheet: &[u8], index: u64) -> Params
     requires { isSheet sheet.now ≡ true }
-    ensures { result ≡ params_at sheet.now index }
+    ensures { result ≡ paramsAt sheet.now index }
 {
     let count = count_of(sheet);
     let number = index as usize;
@@ -115,8 +115,8 @@ pub fn params_at(sheet: &[u8], index: u64) -> Params
 // One value further: one look at one entry.
 pub fn params_next(sheet: &[u8], params: Params) -> Params
     requires sheet_value { isSheet sheet.now ≡ true }
-    requires params_value { params ≡ params_at sheet.now params.index }
-    ensures { result ≡ params_at sheet.now (countedOn params.index) }
+    requires params_value { params ≡ paramsAt sheet.now params.index }
+    ensures { result ≡ paramsAt sheet.now (countedOn params.index) }
 {
     let index = params.index;
     let next = params.next;

@@ -1,7 +1,7 @@
 // The value sheet: what its contents tell, and whether it is well formed.
 ghost use Rattle.std.specs.Prelude.{◌≡◌, true, ◌&&◌, ◌+◌, ◌≤◌, ◌<◌, leb, length};
 ghost use Rattle.characters.specs.Utf8.{wellFormed};
-ghost use Rattle.params.specs.Sheet.{params_of, count_of, isNamed, width, lengthsAt, past, place_of, name_at, value_at, bodiesAreUtf8, fillsExactly, isKindAndCount, isSheet};
+ghost use Rattle.params.specs.Sheet.{paramsOf, countOf, isNamed, width, lengthsAt, past, placeOf, nameAt, valueAt, bodiesAreUtf8, fillsExactly, isKindAndCount, isSheet};
 
 use crate::{Lengths, Place, QueryParams};
 use calls::le16_at;
@@ -9,7 +9,7 @@ use characters::{IllFormed, first_ill_formed};
 
 pub fn params_of(sheet: &[u8]) -> QueryParams
     requires { 0 < length sheet.now }
-    ensures { result ≡ params_of sheet.now }
+    ensures { result ≡ paramsOf sheet.now }
 {
     if sheet[0] == 1 {
         return QueryParams::Named;
@@ -22,7 +22,7 @@ pub fn params_of(sheet: &[u8]) -> QueryParams
 
 pub fn count_of(sheet: &[u8]) -> usize
     requires { 2 < length sheet.now }
-    ensures value { result ≡ count_of sheet.now }
+    ensures value { result ≡ countOf sheet.now }
     ensures upper_bound { result < 65536 }
 {
     le16_at(sheet, 1)
@@ -67,7 +67,7 @@ pub fn lengths_at(sheet: &[u8], place: Place) -> Lengths
 
 pub fn first_place(sheet: &[u8]) -> Place
     requires { 2 < length sheet.now }
-    ensures { result ≡ place_of sheet.now 0 }
+    ensures { result ≡ placeOf sheet.now 0 }
 {
     Place {
         entry: 0,
@@ -103,7 +103,7 @@ fn is_utf8(bytes: &[u8]) -> bool
 fn has_bodies(sheet: &[u8], place: Place) -> bool
     requires body_bound { place.body ≤ 65536 }
     requires sheet_in_bounds { place.lengths + width sheet.now ≤ length sheet.now }
-    ensures { result ≡ (leb (past sheet.now place).body (length sheet.now) && (wellFormed (name_at sheet.now place) && wellFormed (value_at sheet.now place))) }
+    ensures { result ≡ (leb (past sheet.now place).body (length sheet.now) && (wellFormed (nameAt sheet.now place) && wellFormed (valueAt sheet.now place))) }
 {
     let lengths = lengths_at(sheet, place);
     let start = place.body;
@@ -122,7 +122,7 @@ fn has_bodies(sheet: &[u8], place: Place) -> bool
 fn bodies_fill(sheet: &[u8]) -> bool
     requires in_bounds { 2 < length sheet.now }
     requires sheet_len_bound { length sheet.now ≤ 65536 }
-    ensures { result ≡ (fillsExactly sheet.now && bodiesAreUtf8 sheet.now (count_of sheet.now)) }
+    ensures { result ≡ (fillsExactly sheet.now && bodiesAreUtf8 sheet.now (countOf sheet.now)) }
 {
     let count = count_of(sheet);
     let mut place = first_place(sheet);

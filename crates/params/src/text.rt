@@ -5,8 +5,8 @@ ghost use Rattle.std.proofs.lemmas.List.Edits.{sets};
 ghost use Rattle.calls.specs.Texts.{writtenOver};
 ghost use Rattle.params.specs.Sheet.{isSheet};
 ghost use Rattle.params.specs.Inner.Inside.{keyEnd};
-ghost use Rattle.params.specs.Inner.Carried.{params_at};
-ghost use Rattle.params.specs.Filled.{stands_for, partLength, bytesFor, filled};
+ghost use Rattle.params.specs.Inner.Carried.{paramsAt};
+ghost use Rattle.params.specs.Filled.{standsFor, partLength, bytesFor, filled};
 
 use crate::Params;
 use crate::getting::{params_past, stands_for};
@@ -20,8 +20,8 @@ use tokenizer::{Step, Token, at_start, next_step};
 fn length_for(statement: &[u8], sheet: &[u8], params: Params, token: Token) -> usize
     requires sheet_value { isSheet sheet.now ≡ true }
     requires key_in_bounds { keyEnd token.key ≤ length statement.now }
-    requires params_value { params ≡ params_at sheet.now params.index }
-    ensures { result ≡ partLength (stands_for statement.now sheet.now params.index token) }
+    requires params_value { params ≡ paramsAt sheet.now params.index }
+    ensures { result ≡ partLength (standsFor statement.now sheet.now params.index token) }
 {
     part_length(stands_for(statement, sheet, params, token))
 }
@@ -37,10 +37,10 @@ fn put_part_for(
 ) -> usize
     requires sheet_value { isSheet sheet.now ≡ true }
     requires key_in_bounds { keyEnd token.key ≤ length statement.now }
-    requires params_value { params ≡ params_at sheet.now params.index }
+    requires params_value { params ≡ paramsAt sheet.now params.index }
     requires len_in_bounds { token.start + token.len ≤ length statement.now }
-    requires token_in_bounds { at + partLength (stands_for statement.now sheet.now params.index token) ≤ length output.old }
-    ensures value { result ≡ at + partLength (stands_for statement.now sheet.now params.index token) }
+    requires token_in_bounds { at + partLength (standsFor statement.now sheet.now params.index token) ≤ length output.old }
+    ensures value { result ≡ at + partLength (standsFor statement.now sheet.now params.index token) }
     ensures output_after { output.new ≡ sets output.old at (bytesFor statement.now sheet.now params.index token) }
 {
     let part = stands_for(statement, sheet, params, token);
@@ -59,10 +59,10 @@ fn put_for(
 ) -> usize
     requires sheet_value { isSheet sheet.now ≡ true }
     requires key_in_bounds { keyEnd token.key ≤ length statement.now }
-    requires params_value { params ≡ params_at sheet.now params.index }
+    requires params_value { params ≡ paramsAt sheet.now params.index }
     requires len_in_bounds { token.start + token.len ≤ length statement.now }
-    requires token_in_bounds { at + partLength (stands_for statement.now sheet.now params.index token) ≤ length output.old }
-    ensures value { result ≡ at + partLength (stands_for statement.now sheet.now params.index token) }
+    requires token_in_bounds { at + partLength (standsFor statement.now sheet.now params.index token) ≤ length output.old }
+    ensures value { result ≡ at + partLength (standsFor statement.now sheet.now params.index token) }
     ensures output_after { output.new ≡ sets output.old at (bytesFor statement.now sheet.now params.index token) }
 {
     let kind = token.kind;

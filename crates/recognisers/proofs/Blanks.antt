@@ -10,17 +10,17 @@ use Rattle.characters.specs.Character.{codePoint}
 use Rattle.characters.specs.Runs.{inClass, run}
 use Rattle.characters.specs.declared.Class.TheVariants.{Whitespace}
 use Rattle.characters.proofs.ClassesApart.{end-not-white}
-use Rattle.characters.proofs.Rests.{part_end}
-use Rattle.characters.proofs.RunLaws.{run_inside, run-none-class, run-some-class}
+use Rattle.characters.proofs.Rests.{part-end}
+use Rattle.characters.proofs.RunLaws.{run-inside, run-none-class, run-some-class}
 use Rattle.recognisers.specs.declared.Taken.{Taken}
 use Rattle.recognisers.specs.declared.Taken.TheVariants.{Fails}
 use Rattle.recognisers.specs.Taking.{Taker, taken, more, capital, isSpelled, spelled, blanks, endOfWord}
-use Rattle.recognisers.proofs.Spelling.{word_fits, word-then, word-not}
-use Rattle.recognisers.proofs.TakenInside.{Inside, fits_more, then-inside, cond-inside, spelled-inside, end-of-word-inside}
+use Rattle.recognisers.proofs.Spelling.{word-fits, word-then, word-not}
+use Rattle.recognisers.proofs.TakenInside.{Inside, fits-more, then-inside, cond-inside, spelled-inside, end-of-word-inside}
 
 module _ (s : List ℕ) (n : ℕ) (e : n ≡ run (inClass Whitespace) 0 s) where
   pub blanks-fit : n ≤ length s
-  blanks-fit = rw e (run_inside Whitespace 0 s)
+  blanks-fit = rw e (run-inside Whitespace 0 s)
 
   none : n ≡ 0 → isWhitespace (codePoint s) ≡ false
   unfolding inClass
@@ -39,13 +39,13 @@ module _ (s : List ℕ) (n : ℕ) (e : n ≡ run (inClass Whitespace) 0 s) where
     unfolding blanks inClass
     blanks-then t q z f g =
         let some : isWhitespace (codePoint s) ≡ true = run-some-class Whitespace s (λ y. z (e ∙ y)) in
-        g ∙ rw (some, ← e, f, part_end s n)
+        g ∙ rw (some, ← e, f, part-end s n)
 
 pub blanks-inside : (then : Taker) → Inside then → Inside (blanks then)
 unfolding blanks inClass
 blanks-inside then h s =
     cond-inside (isWhitespace (codePoint s)) (more (run isWhitespace 0 s) (then (drop (run isWhitespace 0 s) s))) (length s)
-    (then-inside (run isWhitespace 0 s) then s (run_inside Whitespace 0 s) h)
+    (then-inside (run isWhitespace 0 s) then s (run-inside Whitespace 0 s) h)
 
 -- ---- a word in capitals behind whitespace, as `blanks_then_word` and `end_case` use it
 
@@ -64,7 +64,7 @@ module _ (case : List ℕ) where
     behind-then = blanks-then s n e word
 
     pub behind-fits : (t : Taken) → t ≡ word (take (length s - n) (drop n s)) → length s < 2 ^ 64 → n + taken t < 2 ^ 64
-    behind-fits t q f = fits_more word word-inside s n t q (blanks-fit s n e) f
+    behind-fits t q f = fits-more word word-inside s n t q (blanks-fit s n e) f
 
   module _ (w s : List ℕ) (r : Bool) (e : r ≡ isSpelled capital w s) where
     pub end-case-yes : (t q : Taken) → r ≡ true → t ≡ blanks word (take (length s - length w) (drop (length w) s)) → q ≡ more (length w) t → q ≡ spelled capital w (blanks word) s
@@ -74,4 +74,4 @@ module _ (case : List ℕ) where
     end-case-no = word-not capital (blanks word) w s r e
 
     pub end-case-fits : (t : Taken) → r ≡ true → t ≡ blanks word (take (length s - length w) (drop (length w) s)) → length s < 2 ^ 64 → length w + taken t < 2 ^ 64
-    end-case-fits t y q f = fits_more (blanks word) (blanks-inside word word-inside) s (length w) t q (word_fits capital (blanks word) w s r e y) f
+    end-case-fits t y q f = fits-more (blanks word) (blanks-inside word word-inside) s (length w) t q (word-fits capital (blanks word) w s r e y) f

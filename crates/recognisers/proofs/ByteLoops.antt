@@ -11,7 +11,7 @@ use lib.ListN.{length, take, drop, get_or, drop_of_length-le}
 use lib.Seq.{drop-cons, length-take-le}
 use lib.Dec.{leb, eqb}
 use borrow.Author.Tests.{le-leb, eq-eqb, ne_eqb}
-use Rattle.recognisers.specs.Taking.{count, contains, starts_with}
+use Rattle.recognisers.specs.Taking.{count, contains, startsWith}
 
 -- ---- how many pass a test
 
@@ -53,10 +53,10 @@ module _ (test : ℕ → Bool) where
   none-counted [] e = refl
   none-counted (b ∷ s) e = absurd (let z : ⊥ = omega arith in z)
 
-  pub first_counted : (s : List ℕ) (r : Bool) → (length s ≡ 0 → ⊥) → r ≡ test (get_or s 0 0) → r ≡ leb 1 (count test s)
+  pub first-counted : (s : List ℕ) (r : Bool) → (length s ≡ 0 → ⊥) → r ≡ test (get_or s 0 0) → r ≡ leb 1 (count test s)
   unfolding count
-  first_counted [] r n e = absurd (n refl)
-  first_counted (b ∷ s) r n e = e ∙ go (test b)
+  first-counted [] r n e = absurd (n refl)
+  first-counted (b ∷ s) r n e = e ∙ go (test b)
     where
       go : (t : Bool) → t ≡ leb 1 (cond t (suc (count test s)) 0)
       go true = sym (le-leb 1 (suc (count test s)) (suc-le-suc zero-le))
@@ -115,25 +115,25 @@ module _ (s : List ℕ) (b : ℕ) where
     unfolding contains
     among-here h e = rw (drop-cons s i 0 h, eq-eqb b (get_or s i 0) e) at at.same
 
-    pub among_next : i < length s → (b ≡ get_or s i 0 → ⊥) → AmongAt (i + 1)
+    pub among-next : i < length s → (b ≡ get_or s i 0 → ⊥) → AmongAt (i + 1)
     unfolding contains
-    among_next h e =
+    among-next h e =
         record {
           inside = omega arith;
           same = rw (add-one i) (rw (drop-cons s i 0 h, ne_eqb b (get_or s i 0) e) at at.same);
         }
 
-    pub among_none : length s ≤ i → false ≡ contains s b
+    pub among-none : length s ≤ i → false ≡ contains s b
     unfolding contains
-    among_none h = rw (drop_of_length-le s h) at at.same
+    among-none h = rw (drop_of_length-le s h) at at.same
 
 -- ---- the byte at i
 
 module _ (s : List ℕ) (i b : ℕ) where
-  pub stands : i < length s → eqb (get_or s i 0) b ≡ starts_with b (drop i s)
-  unfolding starts_with
+  pub stands : i < length s → eqb (get_or s i 0) b ≡ startsWith b (drop i s)
+  unfolding startsWith
   stands h = sym (rw (drop-cons s i 0 h))
 
-  pub stands-not : length s ≤ i → false ≡ starts_with b (drop i s)
-  unfolding starts_with
+  pub stands-not : length s ≤ i → false ≡ startsWith b (drop i s)
+  unfolding startsWith
   stands-not h = sym (rw (drop_of_length-le s h))

@@ -11,18 +11,18 @@ use lib.ListN.{length, drop, take, get_or, drop_of_length-le, length-drop}
 use lib.Seq.{drop-cons}
 use lib.Dec.{eqb}
 use borrow.Author.Tests.{eq-eqb, ne_eqb}
-use Rattle.characters.proofs.Rests.{part_end}
+use Rattle.characters.proofs.Rests.{part-end}
 use Rattle.recognisers.specs.declared.Taken.{Taken}
 use Rattle.recognisers.specs.declared.Taken.TheVariants.{Bytes, Fails}
-use Rattle.recognisers.specs.Taking.{Taker, taken, more, typed, isSpelled, spelled, contains, starts_with}
+use Rattle.recognisers.specs.Taking.{Taker, taken, more, typed, isSpelled, spelled, contains, startsWith}
 use Rattle.recognisers.specs.Strings.{takeTillEscaping, closedBy}
-use Rattle.recognisers.proofs.Spelling.{more-more, word_fits, word-then, word-not}
-use Rattle.recognisers.proofs.TakenInside.{Inside, fits_more}
-use Rattle.recognisers.proofs.CommentLoops.{PassedAt, passed_start, passed-more}
+use Rattle.recognisers.proofs.Spelling.{more-more, word-fits, word-then, word-not}
+use Rattle.recognisers.proofs.TakenInside.{Inside, fits-more}
+use Rattle.recognisers.proofs.CommentLoops.{PassedAt, passed-start, passed-more}
 
 -- the byte that stands at the start, so something does
-pub starts-some : (d : ℕ) (s : List ℕ) → starts_with d s ≡ true → 0 < length s
-unfolding starts_with
+pub starts-some : (d : ℕ) (s : List ℕ) → startsWith d s ≡ true → 0 < length s
+unfolding startsWith
 starts-some d [] e = absurd (false≢true e)
 starts-some d (c ∷ s) e = suc-le-suc zero-le
 
@@ -31,17 +31,17 @@ module _ (d : ℕ) (esc : List ℕ) where
   till = takeTillEscaping d esc false
 
   pub quote-start : (s : List ℕ) → PassedAt till s 0
-  quote-start s = passed_start till s
+  quote-start s = passed-start till s
 
-  module _ (s : List ℕ) (i : ℕ) (r : Bool) (at : PassedAt till s i) (h : i < length s) (c : r ≡ (starts_with d (drop (i + 1) s) && contains esc (get_or s i 0))) where
-    pair : r ≡ (contains esc (get_or s i 0) && starts_with d (drop (suc i) s))
-    pair = c ∙ rw (add-one i) (and_comm (starts_with d (drop (suc i) s)) (contains esc (get_or s i 0)))
+  module _ (s : List ℕ) (i : ℕ) (r : Bool) (at : PassedAt till s i) (h : i < length s) (c : r ≡ (startsWith d (drop (i + 1) s) && contains esc (get_or s i 0))) where
+    pair : r ≡ (contains esc (get_or s i 0) && startsWith d (drop (suc i) s))
+    pair = c ∙ rw (add-one i) (and_comm (startsWith d (drop (suc i) s)) (contains esc (get_or s i 0)))
 
     -- an escape and the byte behind it
     pub quote-two : r ≡ true → PassedAt till s (i + 2)
     unfolding takeTillEscaping
     quote-two t =
-        let behind : starts_with d (drop (suc i) s) ≡ true = ((and-eq-true_iff (contains esc (get_or s i 0)) (starts_with d (drop (suc i) s))).0 (sym pair ∙ t)).1 in
+        let behind : startsWith d (drop (suc i) s) ≡ true = ((and-eq-true_iff (contains esc (get_or s i 0)) (startsWith d (drop (suc i) s))).0 (sym pair ∙ t)).1 in
         let o = starts-some d (drop (suc i) s) behind in
         let l : suc i < length s = omega (arith, length-drop (suc i) s) in
         let one_on : till (drop i s) ≡ more 1 (takeTillEscaping d esc true (drop (suc i) s)) = rw (drop-cons s i 0 h, ← pair, t) in
@@ -76,7 +76,7 @@ module _ (d : ℕ) (esc : List ℕ) where
       go (Bytes n) h = omega arith
       go Fails h = zero-le
   closed-inside false (b ∷ s) =
-      go (not (contains esc b && starts_with d s) && eqb b d) (takeTillEscaping d esc (contains esc b && starts_with d s) s) (closed-inside (contains esc b && starts_with d s) s)
+      go (not (contains esc b && startsWith d s) && eqb b d) (takeTillEscaping d esc (contains esc b && startsWith d s) s) (closed-inside (contains esc b && startsWith d s) s)
     where
       go : (t : Bool) (o : Taken) → taken (more 1 o) ≤ length s → taken (more 1 (cond t (Bytes 0) (more 1 o))) ≤ suc (length s)
       go true o h = omega arith
@@ -87,9 +87,9 @@ module _ (d : ℕ) (esc : List ℕ) where
   unfolding closedBy
   quoted-inside s = closed-inside false s
 
-  pub closed_is : (s : List ℕ) (t q : Taken) → t ≡ till s → q ≡ more 1 t → q ≡ closedBy d esc s
+  pub closed-is : (s : List ℕ) (t q : Taken) → t ≡ till s → q ≡ more 1 t → q ≡ closedBy d esc s
   unfolding closedBy
-  closed_is s t q e f = f ∙ rw e
+  closed-is s t q e f = f ∙ rw e
 
   pub closed-fits : (s : List ℕ) (t : Taken) → t ≡ till s → length s < 2 ^ 64 → 1 + taken t < 2 ^ 64
   closed-fits s t e f = go t refl
@@ -110,10 +110,10 @@ module _ (d : ℕ) (esc : List ℕ) where
 
     module _ (t : Taken) (e : t ≡ closedBy d esc (take (length s - 1) (drop 1 s))) where
       pub behind-fits : (length s ≡ 0 → ⊥) → length s < 2 ^ 64 → 1 + taken t < 2 ^ 64
-      behind-fits n f = fits_more (closedBy d esc) quoted-inside s 1 t e (omega arith) f
+      behind-fits n f = fits-more (closedBy d esc) quoted-inside s 1 t e (omega arith) f
 
       pub behind-one : (q : Taken) → q ≡ more 1 t → q ≡ more 1 (closedBy d esc (drop 1 s))
-      behind-one q f = f ∙ rw (e, part_end s 1)
+      behind-one q f = f ∙ rw (e, part-end s 1)
 
   module _ (w s : List ℕ) (r : Bool) (e : r ≡ isSpelled typed w s) where
     pub quoted-yes : (t q : Taken) → r ≡ true → t ≡ closedBy d esc (take (length s - length w) (drop (length w) s)) → q ≡ more (length w) t → q ≡ spelled typed w (closedBy d esc) s
@@ -123,4 +123,4 @@ module _ (d : ℕ) (esc : List ℕ) where
     quoted-no = word-not typed (closedBy d esc) w s r e
 
     pub quoted-fits : (t : Taken) → r ≡ true → t ≡ closedBy d esc (take (length s - length w) (drop (length w) s)) → length s < 2 ^ 64 → length w + taken t < 2 ^ 64
-    quoted-fits t y q f = fits_more (closedBy d esc) quoted-inside s (length w) t q (word_fits typed (closedBy d esc) w s r e y) f
+    quoted-fits t y q f = fits-more (closedBy d esc) quoted-inside s (length w) t q (word-fits typed (closedBy d esc) w s r e y) f

@@ -12,11 +12,11 @@ use borrow.Author.Tests.{le-leb}
 use Rattle.recognisers.specs.declared.Taken.{Taken}
 use Rattle.recognisers.specs.declared.Taken.TheVariants.{Bytes, Fails}
 use Rattle.recognisers.specs.Text.{bytes}
-use Rattle.recognisers.specs.Taking.{Taker, more, or, done, one, typed, spelled, digit1, digit0, count, isDigit, at_least, contains, startsAmong}
+use Rattle.recognisers.specs.Taking.{Taker, more, or, done, one, typed, spelled, digit1, digit0, count, isDigit, atLeast, contains, startsAmong}
 use Rattle.recognisers.specs.Number.{decimalNumber, signedDigits, exponent, scientificNotation, unsigned}
 use Rattle.recognisers.proofs.ByteLoops.{count-inside}
-use Rattle.characters.proofs.Rests.{part_end}
-use Rattle.recognisers.proofs.TakenInside.{Inside, or-inside, done-inside, one_inside, spelled-inside, digit0-inside, digit1-inside}
+use Rattle.characters.proofs.Rests.{part-end}
+use Rattle.recognisers.proofs.TakenInside.{Inside, or-inside, done-inside, one-inside, spelled-inside, digit0-inside, digit1-inside}
 
 module _ (then : Taker) (s : List ℕ) (n : ℕ) (e : n ≡ count isDigit s) where
   pub digits-fit : n ≤ length s
@@ -28,14 +28,14 @@ module _ (then : Taker) (s : List ℕ) (n : ℕ) (e : n ≡ count isDigit s) whe
 
   pub digit1-then : (t q : Taken) → (n ≡ 0 → ⊥) → t ≡ then (take (length s - n) (drop n s)) → q ≡ more n t → q ≡ digit1 then s
   unfolding digit1
-  digit1-then t q z f g = g ∙ rw (← e, le-leb 1 n (omega arith), f, part_end s n)
+  digit1-then t q z f g = g ∙ rw (← e, le-leb 1 n (omega arith), f, part-end s n)
 
   pub digit0-then : (t q : Taken) → t ≡ then (take (length s - n) (drop n s)) → q ≡ more n t → q ≡ digit0 then s
   unfolding digit0
-  digit0-then t q f g = g ∙ rw (← e, f, part_end s n)
+  digit0-then t q f g = g ∙ rw (← e, f, part-end s n)
 
 module _ (s : List ℕ) (n : ℕ) (e : n ≡ count isDigit s) where
-  pub digits-alone : (q : Taken) → q ≡ at_least 1 n → q ≡ digit1 done s
+  pub digits-alone : (q : Taken) → q ≡ atLeast 1 n → q ≡ digit1 done s
   unfolding digit1
   digits-alone q g = g ∙ rw (← e) (ap (λ (m : ℕ). cond (leb 1 n) (Bytes m) Fails) (sym (add-zero n)))
 
@@ -60,7 +60,7 @@ module _ (then : Taker) (m s : List ℕ) (r : Bool) (e : r ≡ startsAmong m s) 
       go [] w = absurd (false≢true (rw w at (sym e ∙ y)))
       go (b ∷ u) w =
           let c : contains m b ≡ true = rw w at (sym e ∙ y) in
-          let f' : t ≡ then (drop 1 s) = f ∙ rw (part_end s 1) in
+          let f' : t ≡ then (drop 1 s) = f ∙ rw (part-end s 1) in
           rw w (g ∙ rw (c, f', w))
 
   pub marked-not : r ≡ false → Fails ≡ one (contains m) then s
@@ -92,7 +92,7 @@ pub signed-inside : Inside signedDigits
 unfolding signedDigits
 signed-inside s =
     or-inside (one (contains (bytes "-+")) (digit1 done) s) (digit1 done s) (length s)
-    (one_inside (contains (bytes "-+")) (digit1 done) digits-inside s)
+    (one-inside (contains (bytes "-+")) (digit1 done) digits-inside s)
     (digits-inside s)
 
 pub exponent-inside : Inside exponent

@@ -10,7 +10,7 @@ use Rattle.recognisers.specs.declared.Key.TheVariants.{None, Named, Escaped}
 use Rattle.recognisers.specs.declared.TokenKind.TheVariants.{String, Placeholder}
 use Rattle.recognisers.specs.declared.Recognised.TheVariants.{Token}
 use Rattle.recognisers.specs.Text.{bytes}
-use Rattle.recognisers.specs.Taking.{one, spelled, typed, contains, starts_with, startsAmong}
+use Rattle.recognisers.specs.Taking.{one, spelled, typed, contains, startsWith, startsAmong}
 use Rattle.recognisers.specs.Pieces.{quotePiece}
 use Rattle.recognisers.specs.Strings.{takeTillEscaping, pairsPassed, closedBy, hexTaken, quotedTaken, stringTaken, pairsIn, stringPairs, getStringToken, placeholderQuotedTaken, placeholderStringTaken, placeholderStringPairs}
 use Rattle.recognisers.specs.Placeholder.{hasEscape, stringKey, stringNamedTaken, stringNamedPairs, getStringNamedPlaceholderToken}
@@ -28,7 +28,7 @@ strings =
     ∷ []
 
 pub strings-counted : map (λ w. getStringToken w.0 w.1) strings ≡ map (λ w. Token (quotePiece String w.2 None w.3)) strings
-unfolding strings one spelled typed contains starts_with startsAmong takeTillEscaping pairsPassed closedBy hexTaken quotedTaken stringTaken pairsIn stringPairs getStringToken
+unfolding strings one spelled typed contains startsWith startsAmong takeTillEscaping pairsPassed closedBy hexTaken quotedTaken stringTaken pairsIn stringPairs getStringToken
 strings-counted = refl
 
 -- the same of string placeholders, with their keys; `@'a''` is `@'a'`, and then a quote
@@ -42,5 +42,5 @@ placeholders =
     ∷ []
 
 pub placeholders-counted : map (λ w. getStringNamedPlaceholderToken w.0 w.1) placeholders ≡ map (λ w. Token (quotePiece Placeholder w.2 w.3 w.4)) placeholders
-unfolding placeholders one spelled typed contains starts_with startsAmong takeTillEscaping pairsPassed closedBy placeholderQuotedTaken placeholderStringTaken pairsIn placeholderStringPairs hasEscape stringKey stringNamedTaken stringNamedPairs getStringNamedPlaceholderToken
+unfolding placeholders one spelled typed contains startsWith startsAmong takeTillEscaping pairsPassed closedBy placeholderQuotedTaken placeholderStringTaken pairsIn placeholderStringPairs hasEscape stringKey stringNamedTaken stringNamedPairs getStringNamedPlaceholderToken
 placeholders-counted = refl

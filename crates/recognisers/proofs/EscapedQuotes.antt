@@ -13,7 +13,7 @@ use lib.Dec.{eqb}
 use borrow.Author.Tests.{eq-eqb, ne_eqb}
 use mir.Syntax.{w64}
 use mir.Val.{Fits}
-use Rattle.characters.proofs.Rests.{part_end}
+use Rattle.characters.proofs.Rests.{part-end}
 use Rattle.recognisers.specs.declared.Taken.{Taken}
 use Rattle.recognisers.specs.declared.Taken.TheVariants.{Bytes, Fails}
 use Rattle.recognisers.specs.declared.Dialect.{Dialect}
@@ -22,16 +22,16 @@ use Rattle.recognisers.specs.declared.TokenKind.TheVariants.{String}
 use Rattle.recognisers.specs.declared.Recognised.TheVariants.{Token, Nothing}
 use Rattle.recognisers.specs.Text.{bytes}
 use Rattle.recognisers.specs.Pieces.{quotePiece}
-use Rattle.recognisers.specs.Taking.{taken, more, one, typed, spelled, contains, starts_with, startsAmong}
+use Rattle.recognisers.specs.Taking.{taken, more, one, typed, spelled, contains, startsWith, startsAmong}
 use Rattle.recognisers.specs.Strings.{takeTillEscaping, closedBy, pairsPassed, pairsBehind, pairsIn, stringTaken, stringPairs, getStringToken, placeholderStringPairs}
 use Rattle.recognisers.specs.Placeholder.{stringNamedPairs}
 use Rattle.recognisers.proofs.Spelling.{not-fails}
 use Rattle.recognisers.proofs.ClosingQuote.{starts-some}
 
 -- where one byte more makes m, what holds behind each number that it can be made of holds of m
-one_more : (m : ℕ) (o : Taken) → more 1 o ≡ Bytes m → (P : ℕ → Type 0) → ((n : ℕ) → o ≡ Bytes n → P (suc n)) → P m
-one_more m (Bytes n) e P f = let z : 1 + n ≡ m = ap taken e in let y : m ≡ suc n = omega (arith, z) in rw y (f n refl)
-one_more m Fails e P f = not-fails m e
+one-more : (m : ℕ) (o : Taken) → more 1 o ≡ Bytes m → (P : ℕ → Type 0) → ((n : ℕ) → o ≡ Bytes n → P (suc n)) → P m
+one-more m (Bytes n) e P f = let z : 1 + n ≡ m = ap taken e in let y : m ≡ suc n = omega (arith, z) in rw y (f n refl)
+one-more m Fails e P f = not-fails m e
 
 module _ (d : ℕ) (esc : List ℕ) where
   abbrev passed : List ℕ → ℕ
@@ -45,17 +45,17 @@ module _ (d : ℕ) (esc : List ℕ) where
     pub few : pairs ≤ i
     pub same : passed s ≡ pairs + passed (drop i s)
 
-  pub pairs_start : (s : List ℕ) → PairsAt s 0 0
-  pairs_start s = record { inside = zero-le; few = zero-le; same = sym (zero-add (passed s)) }
+  pub pairs-start : (s : List ℕ) → PairsAt s 0 0
+  pairs-start s = record { inside = zero-le; few = zero-le; same = sym (zero-add (passed s)) }
 
-  module _ (s : List ℕ) (pairs i : ℕ) (r : Bool) (at : PairsAt s pairs i) (h : i < length s) (c : r ≡ (starts_with d (drop (i + 1) s) && contains esc (get_or s i 0))) where
-    pair : r ≡ (contains esc (get_or s i 0) && starts_with d (drop (suc i) s))
-    pair = c ∙ rw (add-one i) (and_comm (starts_with d (drop (suc i) s)) (contains esc (get_or s i 0)))
+  module _ (s : List ℕ) (pairs i : ℕ) (r : Bool) (at : PairsAt s pairs i) (h : i < length s) (c : r ≡ (startsWith d (drop (i + 1) s) && contains esc (get_or s i 0))) where
+    pair : r ≡ (contains esc (get_or s i 0) && startsWith d (drop (suc i) s))
+    pair = c ∙ rw (add-one i) (and_comm (startsWith d (drop (suc i) s)) (contains esc (get_or s i 0)))
 
     module _ (t : r ≡ true) where
       behind : suc i < length s
       behind =
-          let o = starts-some d (drop (suc i) s) ((and-eq-true_iff (contains esc (get_or s i 0)) (starts_with d (drop (suc i) s))).0 (sym pair ∙ t)).1 in
+          let o = starts-some d (drop (suc i) s) ((and-eq-true_iff (contains esc (get_or s i 0)) (startsWith d (drop (suc i) s))).0 (sym pair ∙ t)).1 in
           omega (arith, length-drop (suc i) s)
 
       pub pairs-two : PairsAt s (pairs + 1) (i + 2)
@@ -95,7 +95,7 @@ module _ (d : ℕ) (esc : List ℕ) where
   behind-short v n h = let k : length v ≤ n = omega arith in rw (drop_of_length-le v k)
 
   pub behind-rest : (v : List ℕ) (n q : ℕ) → q ≡ passed (take (length v - n) (drop n v)) → q ≡ pairsBehind n d esc v
-  behind-rest v n q e = e ∙ ap passed (part_end v n)
+  behind-rest v n q e = e ∙ ap passed (part-end v n)
 
   -- ---- a pair takes two bytes
 
@@ -103,7 +103,7 @@ module _ (d : ℕ) (esc : List ℕ) where
   unfolding pairsPassed
   few-pairs behind [] = zero-le
   few-pairs true (b ∷ s) = omega (arith, few-pairs false s)
-  few-pairs false (b ∷ s) = go (contains esc b && starts_with d s) (eqb b d) (few-pairs (contains esc b && starts_with d s) s)
+  few-pairs false (b ∷ s) = go (contains esc b && startsWith d s) (eqb b d) (few-pairs (contains esc b && startsWith d s) s)
     where
       go : (p q : Bool) → pairsPassed d esc p s * 2 ≤ length s + cond p 1 0
           → cond (not p && q) 0 (pairsPassed d esc p s) * 2 ≤ suc (length s) + 0
@@ -116,8 +116,8 @@ module _ (d : ℕ) (esc : List ℕ) where
 
   -- ---- the value alone tells it: what stands behind the closing quote counts nothing
 
-  starts-taken : (k : ℕ) (s : List ℕ) → starts_with d (take (suc k) s) ≡ starts_with d s
-  unfolding starts_with
+  starts-taken : (k : ℕ) (s : List ℕ) → startsWith d (take (suc k) s) ≡ startsWith d s
+  unfolding startsWith
   starts-taken k [] = refl
   starts-taken k (b ∷ s) = refl
 
@@ -125,60 +125,60 @@ module _ (d : ℕ) (esc : List ℕ) where
   unfolding takeTillEscaping pairsPassed
   walk-tells behind [] m e = refl
   walk-tells true (b ∷ s) m e =
-      one_more m (takeTillEscaping d esc false s) e (λ k. pairsPassed d esc true (take (suc k) (b ∷ s)) ≡ suc (passed s)) (λ n f. ap suc (walk-tells false s n f))
+      one-more m (takeTillEscaping d esc false s) e (λ k. pairsPassed d esc true (take (suc k) (b ∷ s)) ≡ suc (passed s)) (λ n f. ap suc (walk-tells false s n f))
   walk-tells false (b ∷ s) m e =
-      go (contains esc b && starts_with d s) (eqb b d) refl refl e (walk-tells (contains esc b && starts_with d s) s)
+      go (contains esc b && startsWith d s) (eqb b d) refl refl e (walk-tells (contains esc b && startsWith d s) s)
     where
-      go : (p q : Bool) → (contains esc b && starts_with d s) ≡ p → eqb b d ≡ q
+      go : (p q : Bool) → (contains esc b && startsWith d s) ≡ p → eqb b d ≡ q
           → cond (not p && q) (Bytes 0) (more 1 (takeTillEscaping d esc p s)) ≡ Bytes m
           → ((n : ℕ) → takeTillEscaping d esc p s ≡ Bytes n → pairsPassed d esc p (take (suc n) s) ≡ pairsPassed d esc p s)
           → pairsPassed d esc false (take (suc m) (b ∷ s)) ≡ cond (not p && q) 0 (pairsPassed d esc p s)
       go false true f g h tells =
           let z : 0 ≡ m = ap taken h in
-          rw (← z) (either (not (contains esc b && starts_with d []) && eqb b d))
+          rw (← z) (either (not (contains esc b && startsWith d []) && eqb b d))
         where
           either : (x : Bool) → ◌≡◌ {A = ℕ} (cond x 0 0) 0
           either true = refl
           either false = refl
       go true q f g h tells =
-          one_more m (takeTillEscaping d esc true s) h (λ k. pairsPassed d esc false (take (suc k) (b ∷ s)) ≡ pairsPassed d esc true s)
+          one-more m (takeTillEscaping d esc true s) h (λ k. pairsPassed d esc false (take (suc k) (b ∷ s)) ≡ pairsPassed d esc true s)
           (λ n i. rw (starts-taken n s, f) (tells n i))
       go false false f g h tells =
-          one_more m (takeTillEscaping d esc false s) h (λ k. pairsPassed d esc false (take (suc k) (b ∷ s)) ≡ pairsPassed d esc false s)
+          one-more m (takeTillEscaping d esc false s) h (λ k. pairsPassed d esc false (take (suc k) (b ∷ s)) ≡ pairsPassed d esc false s)
           (λ n i. rw (starts-taken n s, f, g) (tells n i))
 
-  pub value_tells : (opener s : List ℕ) (n : ℕ) → spelled typed opener (closedBy d esc) s ≡ Bytes n → pairsBehind (length opener) d esc (take n s) ≡ pairsBehind (length opener) d esc s
+  pub value-tells : (opener s : List ℕ) (n : ℕ) → spelled typed opener (closedBy d esc) s ≡ Bytes n → pairsBehind (length opener) d esc (take n s) ≡ pairsBehind (length opener) d esc s
   unfolding spelled one closedBy
-  value_tells [] s n e =
-      one_more n (takeTillEscaping d esc false s) e (λ k. passed (take k s) ≡ passed s) (λ m f. walk-tells false s m f)
-  value_tells (w ∷ word) [] n e = not-fails n e
-  value_tells (w ∷ word) (b ∷ s) n e = go (eqb (typed b) w) e (value_tells word s)
+  value-tells [] s n e =
+      one-more n (takeTillEscaping d esc false s) e (λ k. passed (take k s) ≡ passed s) (λ m f. walk-tells false s m f)
+  value-tells (w ∷ word) [] n e = not-fails n e
+  value-tells (w ∷ word) (b ∷ s) n e = go (eqb (typed b) w) e (value-tells word s)
     where
       go : (t : Bool) → cond t (more 1 (spelled typed word (closedBy d esc) s)) Fails ≡ Bytes n
           → ((m : ℕ) → spelled typed word (closedBy d esc) s ≡ Bytes m → pairsBehind (length word) d esc (take m s) ≡ pairsBehind (length word) d esc s)
           → pairsBehind (suc (length word)) d esc (take n (b ∷ s)) ≡ pairsBehind (length word) d esc s
       go true f tells =
-          one_more n (spelled typed word (closedBy d esc) s) f (λ k. pairsBehind (suc (length word)) d esc (take k (b ∷ s)) ≡ pairsBehind (length word) d esc s) tells
+          one-more n (spelled typed word (closedBy d esc) s) f (λ k. pairsBehind (suc (length word)) d esc (take k (b ∷ s)) ≡ pairsBehind (length word) d esc s) tells
       go false f tells = not-fails n f
 
 -- ---- by the opener
 
-module _ (single double letters v : List ℕ) (q : ℕ) (tick : Bool) (a : tick ≡ starts_with 96 v) where
+module _ (single double letters v : List ℕ) (q : ℕ) (tick : Bool) (a : tick ≡ startsWith 96 v) where
   pub in-ticks : tick ≡ true → q ≡ pairsBehind 1 96 (bytes "`") v → q ≡ pairsIn single double letters v
   unfolding pairsIn
   in-ticks e f = f ∙ rw (← a, e)
 
-  module _ (n : tick ≡ false) (bracket : Bool) (b : bracket ≡ starts_with 91 v) where
+  module _ (n : tick ≡ false) (bracket : Bool) (b : bracket ≡ startsWith 91 v) where
     pub in-brackets : bracket ≡ true → q ≡ pairsBehind 1 93 (bytes "]") v → q ≡ pairsIn single double letters v
     unfolding pairsIn
     in-brackets e f = f ∙ rw (← a, n, ← b, e)
 
-    module _ (m : bracket ≡ false) (two : Bool) (c : two ≡ starts_with 34 v) where
+    module _ (m : bracket ≡ false) (two : Bool) (c : two ≡ startsWith 34 v) where
       pub in-double : two ≡ true → q ≡ pairsBehind 1 34 double v → q ≡ pairsIn single double letters v
       unfolding pairsIn
       in-double e f = f ∙ rw (← a, n, ← b, m, ← c, e)
 
-      module _ (l : two ≡ false) (quote : Bool) (g : quote ≡ starts_with 39 v) where
+      module _ (l : two ≡ false) (quote : Bool) (g : quote ≡ startsWith 39 v) where
         pub in-single : quote ≡ true → q ≡ pairsBehind 1 39 single v → q ≡ pairsIn single double letters v
         unfolding pairsIn
         in-single e f = f ∙ rw (← a, n, ← b, m, ← c, l, ← g, e)
@@ -195,7 +195,7 @@ module _ (single double letters v : List ℕ) (q : ℕ) (tick : Bool) (a : tick 
 few-in : (single double letters v : List ℕ) → pairsIn single double letters v * 2 ≤ length v
 unfolding pairsIn
 few-in single double letters v =
-    go (starts_with 96 v) (starts_with 91 v) (starts_with 34 v) (starts_with 39 v) (startsAmong letters v)
+    go (startsWith 96 v) (startsWith 91 v) (startsWith 34 v) (startsWith 39 v) (startsAmong letters v)
   where
     go : (a b c d e : Bool)
         → cond a (pairsBehind 1 96 (bytes "`") v) (cond b (pairsBehind 1 93 (bytes "]") v) (cond c (pairsBehind 1 34 double v) (cond d (pairsBehind 1 39 single v) (cond e (pairsBehind 2 39 single v) 0)))) * 2
@@ -213,12 +213,12 @@ few-string v = few-in _ _ _ v
 
 -- behind the mark
 pub named-short : (v : List ℕ) → length v ≡ 0 → 0 ≡ stringNamedPairs v
-unfolding stringNamedPairs placeholderStringPairs pairsIn starts_with startsAmong
+unfolding stringNamedPairs placeholderStringPairs pairsIn startsWith startsAmong
 named-short v h = let k : length v ≤ 1 = omega arith in rw (drop_of_length-le v k)
 
 pub named-rest : (v : List ℕ) (q : ℕ) → q ≡ pairsIn (bytes "\\") (bytes "\\") (bytes "N") (take (length v - 1) (drop 1 v)) → q ≡ stringNamedPairs v
 unfolding stringNamedPairs placeholderStringPairs
-named-rest v q e = e ∙ ap (pairsIn (bytes "\\") (bytes "\\") (bytes "N")) (part_end v 1)
+named-rest v q e = e ∙ ap (pairsIn (bytes "\\") (bytes "\\") (bytes "N")) (part-end v 1)
 
 pub few-named : (v : List ℕ) → stringNamedPairs v * 2 ≤ length v
 unfolding stringNamedPairs placeholderStringPairs

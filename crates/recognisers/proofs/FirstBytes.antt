@@ -13,10 +13,10 @@ use Rattle.characters.specs.WhiteSpace.{whiteSpace}
 use Rattle.characters.specs.Character.{codePoint}
 use Rattle.characters.specs.Classes.{isWhitespace}
 use Rattle.characters.specs.Runs.{run}
-use Rattle.characters.proofs.Below.{all_below, below}
+use Rattle.characters.proofs.Below.{allBelow, below}
 use Rattle.characters.proofs.RunLaws.{ascii-first}
 use Rattle.characters.proofs.WhiteStarts.{white-none, white-two, white-three, white-four}
-use Rattle.characters.proofs.Within.{within_low, within-high}
+use Rattle.characters.proofs.Within.{within-low, within-high}
 use Rattle.recognisers.specs.declared.Dialect.{Dialect}
 use Rattle.recognisers.specs.declared.Dialect.TheVariants.{Generic, PostgreSql, SQLServer}
 use Rattle.recognisers.specs.declared.Taken.{Taken}
@@ -25,7 +25,7 @@ use Rattle.recognisers.specs.declared.TokenKind.TheVariants.{LineComment, BlockC
 use Rattle.recognisers.specs.declared.Recognised.{Recognised}
 use Rattle.recognisers.specs.declared.Recognised.TheVariants.{Token, Nothing}
 use Rattle.recognisers.specs.Text.{bytes}
-use Rattle.recognisers.specs.Taking.{Taker, more, or, done, one, spelled, typed, capital, literal, caseless, blanks, endOfWord, isDigit, count, digit1, contains, starts_with, startsAmong}
+use Rattle.recognisers.specs.Taking.{Taker, more, or, done, one, spelled, typed, capital, literal, caseless, blanks, endOfWord, isDigit, count, digit1, contains, startsWith, startsAmong}
 use Rattle.recognisers.specs.Pieces.{tokenOf, alt}
 use Rattle.recognisers.specs.Comment.{tillLineEnding, throughBlockEnd, getCommentToken}
 use Rattle.recognisers.specs.TypeSpecifier.{getTypeSpecifierToken}
@@ -48,8 +48,8 @@ alt-nothing Nothing = refl
 -- ---- a byte that is not among some
 
 module _ (ks : List ℕ) (b : ℕ) (n : contains ks b ≡ false) where
-  pub none_of : (k : ℕ) → contains ks k ≡ true → eqb b k ≡ false
-  none_of k c = go (eqb b k) refl
+  pub none-of : (k : ℕ) → contains ks k ≡ true → eqb b k ≡ false
+  none-of k c = go (eqb b k) refl
     where
       go : (t : Bool) → eqb b k ≡ t → t ≡ false
       go true q = absurd (false≢true (sym n ∙ (ap (contains ks) (eqb-true b k q) ∙ c)))
@@ -62,7 +62,7 @@ module _ (ks : List ℕ) (b : ℕ) (n : contains ks b ≡ false) where
     where
       low : within 0x61 0x7A b ≡ true → (t : Bool) → eqb (b - 0x20) k ≡ t → t ≡ false
       low w true q =
-          let h : 0x61 ≤ b = within_low 0x61 0x7A b w in
+          let h : 0x61 ≤ b = within-low 0x61 0x7A b w in
           let e : b - 0x20 ≡ k = eqb-true (b - 0x20) k q in
           let f : b ≡ k + 32 = omega arith in
           absurd (false≢true (sym n ∙ (ap (contains ks) f ∙ d)))
@@ -70,15 +70,15 @@ module _ (ks : List ℕ) (b : ℕ) (n : contains ks b ≡ false) where
 
       go : (t : Bool) → within 0x61 0x7A b ≡ t → eqb (cond t (b - 0x20) b) k ≡ false
       go true w = low w (eqb (b - 0x20) k) refl
-      go false w = none_of k c
+      go false w = none-of k c
 
 -- the byte at the start
-pub stands-first : (s : List ℕ) (k : ℕ) (p t : Bool) → p ≡ starts_with k (drop 0 s) → p ≡ t → starts_with k s ≡ t
+pub stands-first : (s : List ℕ) (k : ℕ) (p t : Bool) → p ≡ startsWith k (drop 0 s) → p ≡ t → startsWith k s ≡ t
 stands-first s k p t e q = sym e ∙ q
 
 -- an opener of one byte
-pub opened : (k : ℕ) (then : Taker) (s : List ℕ) (r : Taken) → starts_with k s ≡ true → r ≡ more 1 (then (drop 1 s)) → r ≡ literal (k ∷ []) then s
-unfolding starts_with spelled one typed
+pub opened : (k : ℕ) (then : Taker) (s : List ℕ) (r : Taken) → startsWith k s ≡ true → r ≡ more 1 (then (drop 1 s)) → r ≡ literal (k ∷ []) then s
+unfolding startsWith spelled one typed
 opened k then [] r e f = absurd (false≢true e)
 opened k then (b ∷ s) r e f = f ∙ rw e
 
@@ -87,7 +87,7 @@ opened k then (b ∷ s) r e f = f ∙ rw e
 abbrev whiteStarts : List ℕ
 whiteStarts = 0x09 ∷ 0x0A ∷ 0x0B ∷ 0x0C ∷ 0x0D ∷ 0x20 ∷ 0xC0 ∷ 0xC2 ∷ 0xE0 ∷ 0xE1 ∷ 0xE2 ∷ 0xE3 ∷ 0xF0 ∷ []
 
-whites-among : all_below (λ k. not (isWhitespace k) || contains whiteStarts k) 128 ≡ true
+whites-among : allBelow (λ k. not (isWhitespace k) || contains whiteStarts k) 128 ≡ true
 unfolding contains isWhitespace inRanges within whiteSpace
 whites-among = refl
 
@@ -134,13 +134,13 @@ no-whitespace-cons b s n = rw (no-white b s n)
 
 no-comment-cons : (b : ℕ) (s : List ℕ) → contains (bytes "#-/") b ≡ false → Nothing ≡ getCommentToken (b ∷ s)
 unfolding getCommentToken spelled one typed contains
-no-comment-cons b s n = rw (none_of (bytes "#-/") b n 35 refl, none_of (bytes "#-/") b n 45 refl, none_of (bytes "#-/") b n 47 refl)
+no-comment-cons b s n = rw (none-of (bytes "#-/") b n 35 refl, none-of (bytes "#-/") b n 45 refl, none-of (bytes "#-/") b n 47 refl)
 
 -- ---- type specifiers
 
 no-specifier-cons : (allowed : Bool) (b : ℕ) (s : List ℕ) → contains (bytes ":[") b ≡ false → Nothing ≡ getTypeSpecifierToken allowed (b ∷ s)
 unfolding getTypeSpecifierToken spelled one typed contains
-no-specifier-cons true b s n = rw (none_of (bytes ":[") b n 58 refl, none_of (bytes ":[") b n 91 refl)
+no-specifier-cons true b s n = rw (none-of (bytes ":[") b n 58 refl, none-of (bytes ":[") b n 91 refl)
 no-specifier-cons false b s n = refl
 
 -- ---- strings
@@ -150,7 +150,7 @@ unfolding getStringToken stringTaken quotedTaken hexTaken spelled one typed cont
 no-string-cons dialect b s n = go dialect
   where
     no : (k : ℕ) → contains (bytes "'\"`[NExX") k ≡ true → eqb b k ≡ false
-    no = none_of (bytes "'\"`[NExX") b n
+    no = none-of (bytes "'\"`[NExX") b n
 
     go : (d : Dialect) → Nothing ≡ getStringToken d (b ∷ s)
     go Generic = rw (no 96 refl, no 34 refl, no 39 refl, no 78 refl, no 69 refl, no 120 refl, no 88 refl)
@@ -161,15 +161,15 @@ no-string-cons dialect b s n = go dialect
 
 no-open-cons : (dialect : Dialect) (b : ℕ) (s : List ℕ) → contains (bytes "([Cc") b ≡ false → Nothing ≡ getOpenParenToken dialect (b ∷ s)
 unfolding getOpenParenToken spelled one typed contains
-no-open-cons Generic b s n = rw (none_of (bytes "([Cc") b n 40 refl, no-capital (bytes "([Cc") b n 67 refl refl)
-no-open-cons PostgreSql b s n = rw (none_of (bytes "([Cc") b n 40 refl, none_of (bytes "([Cc") b n 91 refl, no-capital (bytes "([Cc") b n 67 refl refl)
-no-open-cons SQLServer b s n = rw (none_of (bytes "([Cc") b n 40 refl, no-capital (bytes "([Cc") b n 67 refl refl)
+no-open-cons Generic b s n = rw (none-of (bytes "([Cc") b n 40 refl, no-capital (bytes "([Cc") b n 67 refl refl)
+no-open-cons PostgreSql b s n = rw (none-of (bytes "([Cc") b n 40 refl, none-of (bytes "([Cc") b n 91 refl, no-capital (bytes "([Cc") b n 67 refl refl)
+no-open-cons SQLServer b s n = rw (none-of (bytes "([Cc") b n 40 refl, no-capital (bytes "([Cc") b n 67 refl refl)
 
 no-close-cons : (dialect : Dialect) (b : ℕ) (s : List ℕ) → contains (bytes ")]Ee") b ≡ false → Nothing ≡ getCloseParenToken dialect (b ∷ s)
 unfolding getCloseParenToken spelled one typed contains
-no-close-cons Generic b s n = rw (none_of (bytes ")]Ee") b n 41 refl, no-capital (bytes ")]Ee") b n 69 refl refl)
-no-close-cons PostgreSql b s n = rw (none_of (bytes ")]Ee") b n 41 refl, none_of (bytes ")]Ee") b n 93 refl, no-capital (bytes ")]Ee") b n 69 refl refl)
-no-close-cons SQLServer b s n = rw (none_of (bytes ")]Ee") b n 41 refl, no-capital (bytes ")]Ee") b n 69 refl refl)
+no-close-cons Generic b s n = rw (none-of (bytes ")]Ee") b n 41 refl, no-capital (bytes ")]Ee") b n 69 refl refl)
+no-close-cons PostgreSql b s n = rw (none-of (bytes ")]Ee") b n 41 refl, none-of (bytes ")]Ee") b n 93 refl, no-capital (bytes ")]Ee") b n 69 refl refl)
+no-close-cons SQLServer b s n = rw (none-of (bytes ")]Ee") b n 41 refl, no-capital (bytes ")]Ee") b n 69 refl refl)
 
 -- ---- placeholders
 
@@ -178,7 +178,7 @@ unfolding getPlaceholderToken getIdentNamedPlaceholderToken getStringNamedPlaceh
 no-placeholder-cons named dialect b s n = go named
   where
     no : (k : ℕ) → contains (bytes "?@:${") k ≡ true → eqb b k ≡ false
-    no = none_of (bytes "?@:${") b n
+    no = none-of (bytes "?@:${") b n
 
     go : (t : Bool) → Nothing ≡ getPlaceholderToken t dialect (b ∷ s)
     go true = rw (no 63 refl, no 64 refl, no 58 refl, no 36 refl, no 123 refl)
@@ -186,7 +186,7 @@ no-placeholder-cons named dialect b s n = go named
 
 -- ---- numbers
 
-digits-among : all_below (λ k. not (isDigit k) || contains (bytes "-0123456789") k) 128 ≡ true
+digits-among : allBelow (λ k. not (isDigit k) || contains (bytes "-0123456789") k) 128 ≡ true
 unfolding contains within
 digits-among = refl
 
@@ -199,8 +199,8 @@ digit-among b w = go (below (λ k. not (isDigit k) || contains (bytes "-01234567
     go : (not (isDigit b) || contains (bytes "-0123456789") b) ≡ true → isDigit b ≡ true → contains (bytes "-0123456789") b ≡ true
     go f q = rw q at f
 
-no_digit : (b : ℕ) → contains (bytes "-0123456789") b ≡ false → isDigit b ≡ false
-no_digit b n = go (isDigit b) refl
+no-digit : (b : ℕ) → contains (bytes "-0123456789") b ≡ false → isDigit b ≡ false
+no-digit b n = go (isDigit b) refl
   where
     go : (t : Bool) → isDigit b ≡ t → t ≡ false
     go true q = absurd (false≢true (sym n ∙ digit-among b q))
@@ -213,59 +213,59 @@ no-digit-left s n = rw n
 
 no-number-cons : (b : ℕ) (s : List ℕ) → contains (bytes "-0123456789") b ≡ false → Nothing ≡ getNumberToken (b ∷ s)
 unfolding getNumberToken spelled one typed contains count
-no-number-cons b s n = rw (none_of (bytes "-0123456789") b n 45 refl, ← no-digit-left (b ∷ s) (rw (no_digit b n)))
+no-number-cons b s n = rw (none-of (bytes "-0123456789") b n 45 refl, ← no-digit-left (b ∷ s) (rw (no-digit b n)))
 
 -- ---- what is left behind a first byte
 
-hash-left : (s : List ℕ) → starts_with 35 s ≡ true → tokenOf LineComment (literal (bytes "#") tillLineEnding s) ≡ getCommentToken s
-unfolding starts_with getCommentToken spelled one typed
+hash-left : (s : List ℕ) → startsWith 35 s ≡ true → tokenOf LineComment (literal (bytes "#") tillLineEnding s) ≡ getCommentToken s
+unfolding startsWith getCommentToken spelled one typed
 hash-left [] e = absurd (false≢true e)
 hash-left (b ∷ s) e = rw (eqb-true b 35 e) (alt-nothing _)
 
-dashes-left : (s : List ℕ) → starts_with 45 s ≡ true → tokenOf LineComment (literal (bytes "--") tillLineEnding s) ≡ getCommentToken s
-unfolding starts_with getCommentToken spelled one typed
+dashes-left : (s : List ℕ) → startsWith 45 s ≡ true → tokenOf LineComment (literal (bytes "--") tillLineEnding s) ≡ getCommentToken s
+unfolding startsWith getCommentToken spelled one typed
 dashes-left [] e = absurd (false≢true e)
 dashes-left (b ∷ s) e = rw (eqb-true b 45 e) (alt-nothing _)
 
-block-left : (s : List ℕ) → starts_with 35 s ≡ false → starts_with 45 s ≡ false → tokenOf BlockComment (literal (bytes "/*") throughBlockEnd s) ≡ getCommentToken s
-unfolding starts_with getCommentToken spelled one typed
+block-left : (s : List ℕ) → startsWith 35 s ≡ false → startsWith 45 s ≡ false → tokenOf BlockComment (literal (bytes "/*") throughBlockEnd s) ≡ getCommentToken s
+unfolding startsWith getCommentToken spelled one typed
 block-left [] e f = refl
 block-left (b ∷ s) e f = rw (e, f)
 
-negative-left : (s : List ℕ) → starts_with 45 s ≡ true → tokenOf Number (literal (bytes "-") unsigned s) ≡ getNumberToken s
-unfolding starts_with getNumberToken count within
+negative-left : (s : List ℕ) → startsWith 45 s ≡ true → tokenOf Number (literal (bytes "-") unsigned s) ≡ getNumberToken s
+unfolding startsWith getNumberToken count within
 negative-left [] e = absurd (false≢true e)
 negative-left (b ∷ s) e = rw (eqb-true b 45 e, ← no-digit-left (45 ∷ s) refl) (ap (tokenOf Number) (or-fails (literal (bytes "-") unsigned (45 ∷ s))))
 
-unsigned-left : (s : List ℕ) → starts_with 45 s ≡ false → tokenOf Number (unsigned s) ≡ getNumberToken s
-unfolding starts_with getNumberToken spelled one typed
+unsigned-left : (s : List ℕ) → startsWith 45 s ≡ false → tokenOf Number (unsigned s) ≡ getNumberToken s
+unfolding startsWith getNumberToken spelled one typed
 unsigned-left [] e = refl
 unsigned-left (b ∷ s) e = rw e
 
-open-square-left : (dialect : Dialect) (s : List ℕ) → starts_with 91 s ≡ true → tokenOf OpenParen (inPostgreSql dialect (literal (bytes "[") done) s) ≡ getOpenParenToken dialect s
-unfolding starts_with getOpenParenToken spelled one typed capital within
+open-square-left : (dialect : Dialect) (s : List ℕ) → startsWith 91 s ≡ true → tokenOf OpenParen (inPostgreSql dialect (literal (bytes "[") done) s) ≡ getOpenParenToken dialect s
+unfolding startsWith getOpenParenToken spelled one typed capital within
 open-square-left dialect [] e = absurd (false≢true e)
 open-square-left Generic (b ∷ s) e = rw (eqb-true b 91 e)
 open-square-left PostgreSql (b ∷ s) e = rw (eqb-true b 91 e)
 open-square-left SQLServer (b ∷ s) e = rw (eqb-true b 91 e)
 
-open-left : (dialect : Dialect) (s : List ℕ) → starts_with 91 s ≡ false → tokenOf OpenParen (or (literal (bytes "(") done s) (caseless (bytes "CASE") endOfWord s)) ≡ getOpenParenToken dialect s
-unfolding starts_with getOpenParenToken spelled one typed
+open-left : (dialect : Dialect) (s : List ℕ) → startsWith 91 s ≡ false → tokenOf OpenParen (or (literal (bytes "(") done s) (caseless (bytes "CASE") endOfWord s)) ≡ getOpenParenToken dialect s
+unfolding startsWith getOpenParenToken spelled one typed
 open-left Generic s e = refl
 open-left SQLServer s e = refl
 open-left PostgreSql [] e = refl
 open-left PostgreSql (b ∷ s) e = rw e
 
-close-square-left : (dialect : Dialect) (s : List ℕ) → starts_with 93 s ≡ true → tokenOf CloseParen (inPostgreSql dialect (literal (bytes "]") done) s) ≡ getCloseParenToken dialect s
-unfolding starts_with getCloseParenToken spelled one typed capital within
+close-square-left : (dialect : Dialect) (s : List ℕ) → startsWith 93 s ≡ true → tokenOf CloseParen (inPostgreSql dialect (literal (bytes "]") done) s) ≡ getCloseParenToken dialect s
+unfolding startsWith getCloseParenToken spelled one typed capital within
 close-square-left dialect [] e = absurd (false≢true e)
 close-square-left Generic (b ∷ s) e = rw (eqb-true b 93 e)
 close-square-left PostgreSql (b ∷ s) e = rw (eqb-true b 93 e)
 close-square-left SQLServer (b ∷ s) e = rw (eqb-true b 93 e)
 
-close-left : (dialect : Dialect) (s : List ℕ) → starts_with 93 s ≡ false
+close-left : (dialect : Dialect) (s : List ℕ) → startsWith 93 s ≡ false
     → tokenOf CloseParen (or (literal (bytes ")") done s) (or (caseless (bytes "END") (blanks (caseless (bytes "CASE") endOfWord)) s) (caseless (bytes "END") endOfWord s))) ≡ getCloseParenToken dialect s
-unfolding starts_with getCloseParenToken spelled one typed
+unfolding startsWith getCloseParenToken spelled one typed
 close-left Generic s e = refl
 close-left SQLServer s e = refl
 close-left PostgreSql [] e = refl
@@ -274,8 +274,8 @@ close-left PostgreSql (b ∷ s) e = rw e
 -- ---- as the recognisers use them, where the first byte is not among those that may stand there
 
 module _ (p : Bool) (n : p ≡ false) where
-  pub no_unsigned : (s : List ℕ) → p ≡ leb 1 (count isDigit s) → Fails ≡ unsigned s
-  no_unsigned s e = no-digit-left s (sym e ∙ n)
+  pub no-unsigned : (s : List ℕ) → p ≡ leb 1 (count isDigit s) → Fails ≡ unsigned s
+  no-unsigned s e = no-digit-left s (sym e ∙ n)
 
   pub no-whitespace : (s : List ℕ) → p ≡ startsAmong whiteStarts s → Nothing ≡ getWhitespaceToken s
   unfolding startsAmong getWhitespaceToken run
@@ -314,10 +314,10 @@ module _ (p : Bool) (n : p ≡ false) where
   no-close SQLServer [] e = refl
   no-close dialect (b ∷ s) e = no-close-cons dialect b s (sym e ∙ n)
 
-  pub no_number : (s : List ℕ) → p ≡ startsAmong (bytes "-0123456789") s → Nothing ≡ getNumberToken s
+  pub no-number : (s : List ℕ) → p ≡ startsAmong (bytes "-0123456789") s → Nothing ≡ getNumberToken s
   unfolding startsAmong getNumberToken unsigned scientificNotation decimalNumber digit1 count spelled one
-  no_number [] e = refl
-  no_number (b ∷ s) e = no-number-cons b s (sym e ∙ n)
+  no-number [] e = refl
+  no-number (b ∷ s) e = no-number-cons b s (sym e ∙ n)
 
   pub no-placeholder : (named : Bool) (dialect : Dialect) (s : List ℕ) → p ≡ startsAmong (bytes "?@:${") s → Nothing ≡ getPlaceholderToken named dialect s
   unfolding startsAmong getPlaceholderToken getIdentNamedPlaceholderToken getStringNamedPlaceholderToken getIndexedPlaceholderToken getBracedNamedPlaceholderToken indexedTaken identTaken stringNamedTaken bracedTaken spelled one
@@ -328,31 +328,31 @@ module _ (p : Bool) (n : p ≡ false) where
 -- ---- as they use them by the first byte: r is made of what was taken
 
 module _ (p : Bool) (t : Taken) (r : Recognised) (s : List ℕ) where
-  pub hash-comment : p ≡ starts_with 35 (drop 0 s) → p ≡ true → t ≡ literal (bytes "#") tillLineEnding s → r ≡ tokenOf LineComment t → r ≡ getCommentToken s
+  pub hash-comment : p ≡ startsWith 35 (drop 0 s) → p ≡ true → t ≡ literal (bytes "#") tillLineEnding s → r ≡ tokenOf LineComment t → r ≡ getCommentToken s
   hash-comment e q f g = g ∙ (ap (tokenOf LineComment) f ∙ hash-left s (sym e ∙ q))
 
-  pub dashed-comment : p ≡ starts_with 45 (drop 0 s) → p ≡ true → t ≡ literal (bytes "--") tillLineEnding s → r ≡ tokenOf LineComment t → r ≡ getCommentToken s
+  pub dashed-comment : p ≡ startsWith 45 (drop 0 s) → p ≡ true → t ≡ literal (bytes "--") tillLineEnding s → r ≡ tokenOf LineComment t → r ≡ getCommentToken s
   dashed-comment e q f g = g ∙ (ap (tokenOf LineComment) f ∙ dashes-left s (sym e ∙ q))
 
-  pub block-comment-is : p ≡ starts_with 35 (drop 0 s) → p ≡ false → (o : Bool) → o ≡ starts_with 45 (drop 0 s) → o ≡ false → t ≡ literal (bytes "/*") throughBlockEnd s → r ≡ tokenOf BlockComment t → r ≡ getCommentToken s
+  pub block-comment-is : p ≡ startsWith 35 (drop 0 s) → p ≡ false → (o : Bool) → o ≡ startsWith 45 (drop 0 s) → o ≡ false → t ≡ literal (bytes "/*") throughBlockEnd s → r ≡ tokenOf BlockComment t → r ≡ getCommentToken s
   block-comment-is e q o e₂ q₂ f g = g ∙ (ap (tokenOf BlockComment) f ∙ block-left s (sym e ∙ q) (sym e₂ ∙ q₂))
 
-  pub negative-is : p ≡ starts_with 45 (drop 0 s) → p ≡ true → t ≡ literal (bytes "-") unsigned s → r ≡ tokenOf Number t → r ≡ getNumberToken s
+  pub negative-is : p ≡ startsWith 45 (drop 0 s) → p ≡ true → t ≡ literal (bytes "-") unsigned s → r ≡ tokenOf Number t → r ≡ getNumberToken s
   negative-is e q f g = g ∙ (ap (tokenOf Number) f ∙ negative-left s (sym e ∙ q))
 
-  pub unsigned_is : p ≡ starts_with 45 (drop 0 s) → p ≡ false → t ≡ unsigned s → r ≡ tokenOf Number t → r ≡ getNumberToken s
-  unsigned_is e q f g = g ∙ (ap (tokenOf Number) f ∙ unsigned-left s (sym e ∙ q))
+  pub unsigned-is : p ≡ startsWith 45 (drop 0 s) → p ≡ false → t ≡ unsigned s → r ≡ tokenOf Number t → r ≡ getNumberToken s
+  unsigned-is e q f g = g ∙ (ap (tokenOf Number) f ∙ unsigned-left s (sym e ∙ q))
 
   module _ (dialect : Dialect) where
-    pub open-square : p ≡ starts_with 91 (drop 0 s) → p ≡ true → t ≡ inPostgreSql dialect (literal (bytes "[") done) s → r ≡ tokenOf OpenParen t → r ≡ getOpenParenToken dialect s
+    pub open-square : p ≡ startsWith 91 (drop 0 s) → p ≡ true → t ≡ inPostgreSql dialect (literal (bytes "[") done) s → r ≡ tokenOf OpenParen t → r ≡ getOpenParenToken dialect s
     open-square e q f g = g ∙ (ap (tokenOf OpenParen) f ∙ open-square-left dialect s (sym e ∙ q))
 
-    pub open-other : p ≡ starts_with 91 (drop 0 s) → p ≡ false → (round word : Taken) → round ≡ literal (bytes "(") done s → word ≡ caseless (bytes "CASE") endOfWord s → t ≡ or round word → r ≡ tokenOf OpenParen t → r ≡ getOpenParenToken dialect s
+    pub open-other : p ≡ startsWith 91 (drop 0 s) → p ≡ false → (round word : Taken) → round ≡ literal (bytes "(") done s → word ≡ caseless (bytes "CASE") endOfWord s → t ≡ or round word → r ≡ tokenOf OpenParen t → r ≡ getOpenParenToken dialect s
     open-other e q round word h i f g = rw (g, f, h, i) (open-left dialect s (sym e ∙ q))
 
-    pub close-square : p ≡ starts_with 93 (drop 0 s) → p ≡ true → t ≡ inPostgreSql dialect (literal (bytes "]") done) s → r ≡ tokenOf CloseParen t → r ≡ getCloseParenToken dialect s
+    pub close-square : p ≡ startsWith 93 (drop 0 s) → p ≡ true → t ≡ inPostgreSql dialect (literal (bytes "]") done) s → r ≡ tokenOf CloseParen t → r ≡ getCloseParenToken dialect s
     close-square e q f g = g ∙ (ap (tokenOf CloseParen) f ∙ close-square-left dialect s (sym e ∙ q))
 
-    pub close_other : p ≡ starts_with 93 (drop 0 s) → p ≡ false → (end-case end words round : Taken) → end-case ≡ caseless (bytes "END") (blanks (caseless (bytes "CASE") endOfWord)) s → end ≡ caseless (bytes "END") endOfWord s → words ≡ or end-case end
+    pub close-other : p ≡ startsWith 93 (drop 0 s) → p ≡ false → (end-case end words round : Taken) → end-case ≡ caseless (bytes "END") (blanks (caseless (bytes "CASE") endOfWord)) s → end ≡ caseless (bytes "END") endOfWord s → words ≡ or end-case end
         → round ≡ literal (bytes ")") done s → t ≡ or round words → r ≡ tokenOf CloseParen t → r ≡ getCloseParenToken dialect s
-    close_other e q end-case end words round h i j k f g = rw (g, f, k, j, h, i) (close-left dialect s (sym e ∙ q))
+    close-other e q end-case end words round h i j k f g = rw (g, f, k, j, h, i) (close-left dialect s (sym e ∙ q))

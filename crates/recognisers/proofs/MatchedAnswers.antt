@@ -15,7 +15,7 @@ use Rattle.recognisers.specs.declared.Key.TheVariants.{None}
 use Rattle.recognisers.specs.declared.Piece.{Piece}
 use Rattle.recognisers.specs.declared.Recognised.{Recognised}
 use Rattle.recognisers.specs.declared.Recognised.TheVariants.{Token, Nothing}
-use Rattle.recognisers.specs.Taking.{taken, more, or, endOfWord, at_least, starts_with}
+use Rattle.recognisers.specs.Taking.{taken, more, or, endOfWord, atLeast, startsWith}
 use Rattle.recognisers.specs.Words.{getAnyOtherChar}
 use Rattle.recognisers.specs.Pieces.{piece, tokenOf, alt}
 use Rattle.characters.specs.declared.Character.{Character}
@@ -23,11 +23,11 @@ use Rattle.characters.specs.Classes.{isWordCharacter}
 use Rattle.characters.specs.Character.{character, codePoint}
 
 module _ (t : Taken) (n : ℕ) (e : t ≡ Bytes n) where
-  pub or_bytes : (b : Taken) → Bytes n ≡ or t b
-  or_bytes b = rw e
+  pub or-bytes : (b : Taken) → Bytes n ≡ or t b
+  or-bytes b = rw e
 
-  pub more_bytes : (m : ℕ) → Bytes (m + n) ≡ more m t
-  more_bytes m = rw e
+  pub more-bytes : (m : ℕ) → Bytes (m + n) ≡ more m t
+  more-bytes m = rw e
 
   pub more-fits : (m : ℕ) → m + taken t < 2 ^ 64 → Fits w64 (m + n)
   more-fits m h = record { fits = rw e at h }
@@ -56,18 +56,18 @@ pub alt-nothing : (a b : Recognised) → a ≡ Nothing → b ≡ alt a b
 alt-nothing a b e = rw e
 
 module _ {A : Type 0} (t : Bool) (x y r : A) where
-  pub cond_yes : t ≡ true → r ≡ x → r ≡ cond t x y
-  cond_yes e q = rw e q
+  pub cond-yes : t ≡ true → r ≡ x → r ≡ cond t x y
+  cond-yes e q = rw e q
 
-  pub cond_no : t ≡ false → r ≡ y → r ≡ cond t x y
-  cond_no e q = rw e q
+  pub cond-no : t ≡ false → r ≡ y → r ≡ cond t x y
+  cond-no e q = rw e q
 
 -- `get_any_other_char`
-module _ (s : List ℕ) (r : Bool) (e : r ≡ (starts_with 10 s || starts_with 13 s)) where
+module _ (s : List ℕ) (r : Bool) (e : r ≡ (startsWith 10 s || startsWith 13 s)) where
   pub other-break : r ≡ true → Nothing ≡ getAnyOtherChar s
   unfolding getAnyOtherChar
   other-break t = rw (← e, t)
 
-  pub other-char : (x : Character) (t : Taken) (q : Recognised) → r ≡ false → x ≡ character (drop 0 s) → t ≡ at_least 1 x.len → q ≡ tokenOf Operator t → q ≡ getAnyOtherChar s
+  pub other-char : (x : Character) (t : Taken) (q : Recognised) → r ≡ false → x ≡ character (drop 0 s) → t ≡ atLeast 1 x.len → q ≡ tokenOf Operator t → q ≡ getAnyOtherChar s
   unfolding getAnyOtherChar character
   other-char x t q y w f g = g ∙ rw (← e, y, f, w)

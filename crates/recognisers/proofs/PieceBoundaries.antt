@@ -28,7 +28,7 @@ use Rattle.recognisers.specs.declared.TokenKind.TheVariants as K
 use Rattle.recognisers.specs.declared.Recognised.{Recognised}
 use Rattle.recognisers.specs.declared.Recognised.TheVariants.{Token, Nothing}
 use Rattle.recognisers.specs.Text.{byte, bytes}
-use Rattle.recognisers.specs.Taking.{Taker, more, or, done, one, spelled, typed, capital, blanks, endOfWord, digit0, digit1, count, isDigit, at_least, contains, starts_with}
+use Rattle.recognisers.specs.Taking.{Taker, more, or, done, one, spelled, typed, capital, blanks, endOfWord, digit0, digit1, count, isDigit, atLeast, contains, startsWith}
 use Rattle.recognisers.specs.Pieces.{tokenOf, quoteToken, alt}
 use Rattle.recognisers.specs.Comment.{tillLineEnding, throughBlockEnd, getCommentToken}
 use Rattle.recognisers.specs.TypeSpecifier.{getTypeSpecifierToken}
@@ -126,11 +126,11 @@ blanks-cuts then h s w =
 
 -- ---- bytes that pass a test
 
-count_cut : (test : ℕ → Bool) → Plain test → (s : List ℕ) (n : ℕ) → n ≤ count test s → wellFormed s ≡ true → wellFormed (drop n s) ≡ true
+count-cut : (test : ℕ → Bool) → Plain test → (s : List ℕ) (n : ℕ) → n ≤ count test s → wellFormed s ≡ true → wellFormed (drop n s) ≡ true
 unfolding count
-count_cut test a s zero h w = w
-count_cut test a [] (suc n) h w = w
-count_cut test a (b ∷ s) (suc n) h w = go (test b) refl (λ k v. count_cut test a s n k v) h
+count-cut test a s zero h w = w
+count-cut test a [] (suc n) h w = w
+count-cut test a (b ∷ s) (suc n) h w = go (test b) refl (λ k v. count-cut test a s n k v) h
   where
     go : (t : Bool) → test b ≡ t → (n ≤ count test s → wellFormed s ≡ true → wellFormed (drop n s) ≡ true) → suc n ≤ cond t (suc (count test s)) 0 → wellFormed (drop n s) ≡ true
     go true e rest h = rest (le_of_suc-le-suc h) (ascii-next b s (a b e) w)
@@ -154,7 +154,7 @@ digit0-cuts : (then : Taker) → Cuts then → Cuts (digit0 then)
 unfolding digit0
 digit0-cuts then h s w =
     more-leaves (count isDigit s) s (then (drop (count isDigit s) s))
-    (h (drop (count isDigit s) s) (count_cut isDigit digit-plain s (count isDigit s) (le_refl (count isDigit s)) w))
+    (h (drop (count isDigit s) s) (count-cut isDigit digit-plain s (count isDigit s) (le_refl (count isDigit s)) w))
 
 digit1-cuts : (then : Taker) → Cuts then → Cuts (digit1 then)
 unfolding digit1 digit0
@@ -175,30 +175,30 @@ later b s (Bytes n) h = stop-later b s n h
 later b s Fails h = tt
 
 -- a byte that is this ASCII one
-is_ascii : (b c : ℕ) → c < 0x80 → eqb b c ≡ true → b < 0x80
-is_ascii b c h e = rw (eqb-true b c e) h
+is-ascii : (b c : ℕ) → c < 0x80 → eqb b c ≡ true → b < 0x80
+is-ascii b c h e = rw (eqb-true b c e) h
 
 line-stops : (s : List ℕ) → Stops s (tillLineEnding s)
 unfolding tillLineEnding
 line-stops [] = at-end refl
-line-stops (b ∷ s) = go (eqb b 10) (eqb b 13) (starts_with 10 s) refl refl (line-stops s)
+line-stops (b ∷ s) = go (eqb b 10) (eqb b 13) (startsWith 10 s) refl refl (line-stops s)
   where
     go : (t u v : Bool) → eqb b 10 ≡ t → eqb b 13 ≡ u → Stops s (tillLineEnding s) → Stops (b ∷ s) (cond t (Bytes 0) (cond u (cond v (Bytes 0) Fails) (more 1 (tillLineEnding s))))
-    go true u v e f h = before (suc-le-suc zero-le) (is_ascii b 10 (omega arith) e)
-    go false true true e f h = before (suc-le-suc zero-le) (is_ascii b 13 (omega arith) f)
+    go true u v e f h = before (suc-le-suc zero-le) (is-ascii b 10 (omega arith) e)
+    go false true true e f h = before (suc-le-suc zero-le) (is-ascii b 13 (omega arith) f)
     go false true false e f h = tt
     go false false v e f h = later b s (tillLineEnding s) h
 
 block-stops : (s : List ℕ) → Stops s (throughBlockEnd s)
-unfolding throughBlockEnd starts_with
+unfolding throughBlockEnd startsWith
 block-stops [] = at-end refl
-block-stops (b ∷ s) = go (eqb b 42) (starts_with 47 s) refl (block-stops s)
+block-stops (b ∷ s) = go (eqb b 42) (startsWith 47 s) refl (block-stops s)
   where
-    slash : (r : List ℕ) → starts_with 47 r ≡ true → Stops (b ∷ r) (Bytes 2)
+    slash : (r : List ℕ) → startsWith 47 r ≡ true → Stops (b ∷ r) (Bytes 2)
     slash [] e = absurd (false≢true e)
-    slash (c ∷ r) e = behind 1 refl (suc-le-suc (suc-le-suc zero-le)) (is_ascii c 47 (omega arith) e)
+    slash (c ∷ r) e = behind 1 refl (suc-le-suc (suc-le-suc zero-le)) (is-ascii c 47 (omega arith) e)
 
-    go : (t u : Bool) → starts_with 47 s ≡ u → Stops s (throughBlockEnd s) → Stops (b ∷ s) (cond (t && u) (Bytes 2) (more 1 (throughBlockEnd s)))
+    go : (t u : Bool) → startsWith 47 s ≡ u → Stops s (throughBlockEnd s) → Stops (b ∷ s) (cond (t && u) (Bytes 2) (more 1 (throughBlockEnd s)))
     go true true e h = slash s e
     go true false e h = later b s (throughBlockEnd s) h
     go false u e h = later b s (throughBlockEnd s) h
@@ -208,13 +208,13 @@ unfolding takeTillEscaping
 closed-stops d l escapes passing [] = tt
 closed-stops d l escapes true (b ∷ s) = later b s (more 1 (takeTillEscaping d escapes false s)) (closed-stops d l escapes false s)
 closed-stops d l escapes false (b ∷ s) =
-    go (not (contains escapes b && starts_with d s)) (eqb b d) refl (closed-stops d l escapes (contains escapes b && starts_with d s) s)
+    go (not (contains escapes b && startsWith d s)) (eqb b d) refl (closed-stops d l escapes (contains escapes b && startsWith d s) s)
   where
-    go : (t u : Bool) → eqb b d ≡ u → Stops s (more 1 (takeTillEscaping d escapes (contains escapes b && starts_with d s) s))
-        → Stops (b ∷ s) (more 1 (cond (t && u) (Bytes 0) (more 1 (takeTillEscaping d escapes (contains escapes b && starts_with d s) s))))
-    go true true e h = behind 0 refl (suc-le-suc zero-le) (is_ascii b d l e)
-    go true false e h = later b s (more 1 (takeTillEscaping d escapes (contains escapes b && starts_with d s) s)) h
-    go false u e h = later b s (more 1 (takeTillEscaping d escapes (contains escapes b && starts_with d s) s)) h
+    go : (t u : Bool) → eqb b d ≡ u → Stops s (more 1 (takeTillEscaping d escapes (contains escapes b && startsWith d s) s))
+        → Stops (b ∷ s) (more 1 (cond (t && u) (Bytes 0) (more 1 (takeTillEscaping d escapes (contains escapes b && startsWith d s) s))))
+    go true true e h = behind 0 refl (suc-le-suc zero-le) (is-ascii b d l e)
+    go true false e h = later b s (more 1 (takeTillEscaping d escapes (contains escapes b && startsWith d s) s)) h
+    go false u e h = later b s (more 1 (takeTillEscaping d escapes (contains escapes b && startsWith d s) s)) h
 
 brace-stops : (s : List ℕ) → Stops s (throughBrace s)
 unfolding throughBrace
@@ -222,7 +222,7 @@ brace-stops [] = tt
 brace-stops (b ∷ s) = go (eqb b 125) refl (brace-stops s)
   where
     go : (t : Bool) → eqb b 125 ≡ t → Stops s (throughBrace s) → Stops (b ∷ s) (cond t (Bytes 1) (more 1 (throughBrace s)))
-    go true e h = behind 0 refl (suc-le-suc zero-le) (is_ascii b 125 (omega arith) e)
+    go true e h = behind 0 refl (suc-le-suc zero-le) (is-ascii b 125 (omega arith) e)
     go false e h = later b s (throughBrace s) h
 
 line-cuts : Cuts tillLineEnding
@@ -237,7 +237,7 @@ closed-cuts d l escapes s w = stops-leave s (more 1 (takeTillEscaping d escapes 
 
 braced-cuts : Cuts bracedText
 unfolding bracedText
-braced-cuts s w = go (starts_with 125 s)
+braced-cuts s w = go (startsWith 125 s)
   where
     go : (t : Bool) → Leaves s (cond t Fails (throughBrace s))
     go true = fails-leaves s
@@ -265,7 +265,7 @@ keyed-bounded : (s : List ℕ) (key : ℕ → Key) (t : Taken) → Leaves s t �
 keyed-bounded s key (Bytes n) h = h.left
 keyed-bounded s key Fails h = tt
 
-at-least-leaves : (s : List ℕ) (k n : ℕ) → wellFormed (drop n s) ≡ true → Leaves s (at_least k n)
+at-least-leaves : (s : List ℕ) (k n : ℕ) → wellFormed (drop n s) ≡ true → Leaves s (atLeast k n)
 at-least-leaves s k n h = cond-leaves s (leb k n) (Bytes n) (record { left = h })
 
 module _ (s : List ℕ) (w : wellFormed s ≡ true) where
@@ -282,7 +282,7 @@ module _ (s : List ℕ) (w : wellFormed s ≡ true) where
   operator-bounded =
       token-bounded s K.Operator _
       (at-least-leaves s 2 (min (count isOperator s) 5)
-      (count_cut isOperator (contains-plain (bytes "!<>=|:-~*&@^?#/%") refl) s (min (count isOperator s) 5) (min-le_left (count isOperator s) 5) w))
+      (count-cut isOperator (contains-plain (bytes "!<>=|:-~*&@^?#/%") refl) s (min (count isOperator s) 5) (min-le_left (count isOperator s) 5) w))
 
   character-left : (s : List ℕ) → wellFormed s ≡ true → wellFormed (drop (characterLength s) s) ≡ true
   unfolding characterLength
@@ -291,9 +291,9 @@ module _ (s : List ℕ) (w : wellFormed s ≡ true) where
 
   pub other-bounded : Bounded s (getAnyOtherChar s)
   unfolding getAnyOtherChar
-  other-bounded = token-bounded s K.Operator _ (go (starts_with 10 s || starts_with 13 s))
+  other-bounded = token-bounded s K.Operator _ (go (startsWith 10 s || startsWith 13 s))
     where
-      go : (t : Bool) → Leaves s (cond t Fails (at_least 1 (characterLength s)))
+      go : (t : Bool) → Leaves s (cond t Fails (atLeast 1 (characterLength s)))
       go true = fails-leaves s
       go false = at-least-leaves s 1 (characterLength s) (character-left s w)
 

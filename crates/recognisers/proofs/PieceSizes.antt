@@ -15,7 +15,7 @@ use Rattle.characters.specs.Character.{characterLength}
 use Rattle.characters.specs.Classes.{isWhitespace, isWordCharacter}
 use Rattle.characters.specs.Runs.{inClass, run}
 use Rattle.characters.specs.declared.Class.TheVariants as C
-use Rattle.characters.proofs.RunLaws.{run_inside, character-inside}
+use Rattle.characters.proofs.RunLaws.{run-inside, character-inside}
 use Rattle.recognisers.specs.declared.Taken.{Taken}
 use Rattle.recognisers.specs.declared.Taken.TheVariants.{Bytes, Fails}
 use Rattle.recognisers.specs.declared.TokenKind.{TokenKind}
@@ -30,7 +30,7 @@ use Rattle.recognisers.specs.declared.Piece.{Piece}
 use Rattle.recognisers.specs.declared.Recognised.{Recognised}
 use Rattle.recognisers.specs.declared.Recognised.TheVariants.{Token, Nothing}
 use Rattle.recognisers.specs.Text.{byte, bytes}
-use Rattle.recognisers.specs.Taking.{Taker, taken, more, or, done, one, spelled, typed, capital, blanks, endOfWord, digit0, digit1, count, isDigit, at_least, contains, starts_with}
+use Rattle.recognisers.specs.Taking.{Taker, taken, more, or, done, one, spelled, typed, capital, blanks, endOfWord, digit0, digit1, count, isDigit, atLeast, contains, startsWith}
 use Rattle.recognisers.specs.Pieces.{tokenOf, quoteToken, alt}
 use Rattle.recognisers.specs.Inner.KeyStart.{keyStart}
 use Rattle.recognisers.specs.Comment.{tillLineEnding, throughBlockEnd, getCommentToken}
@@ -38,11 +38,11 @@ use Rattle.recognisers.specs.TypeSpecifier.{getTypeSpecifierToken}
 use Rattle.recognisers.specs.Strings.{closedBy, inSQLServer, hexTaken, quotedTaken, stringTaken, stringPairs, getStringToken, placeholderQuotedTaken, placeholderStringTaken}
 use Rattle.recognisers.specs.Parens.{inPostgreSql, getOpenParenToken, getCloseParenToken}
 use Rattle.recognisers.specs.Number.{decimalNumber, exponent, scientificNotation, unsigned, getNumberToken}
-use Rattle.recognisers.specs.Placeholder.{keyed, numberFrom, number_of, indexed, indexedKey, indexedTaken, getIndexedPlaceholderToken, placeholderName, identTaken, getIdentNamedPlaceholderToken, bracedText, bracedTaken, getBracedNamedPlaceholderToken, hasEscape, stringKey, stringNamedTaken, stringNamedPairs, getStringNamedPlaceholderToken, getPlaceholderToken}
+use Rattle.recognisers.specs.Placeholder.{keyed, numberFrom, numberOf, indexed, indexedKey, indexedTaken, getIndexedPlaceholderToken, placeholderName, identTaken, getIdentNamedPlaceholderToken, bracedText, bracedTaken, getBracedNamedPlaceholderToken, hasEscape, stringKey, stringNamedTaken, stringNamedPairs, getStringNamedPlaceholderToken, getPlaceholderToken}
 use Rattle.recognisers.specs.Words.{getWhitespaceToken, isOperator, getOperatorToken, getWordToken, getAnyOtherChar}
 use Rattle.recognisers.proofs.ByteLoops.{count-inside}
-use Rattle.recognisers.proofs.TakenInside.{Inside, cond-inside, or-inside, done-inside, one_inside, spelled-inside, end-of-word-inside}
-use Rattle.recognisers.proofs.CommentLoops.{line-inside, block_inside}
+use Rattle.recognisers.proofs.TakenInside.{Inside, cond-inside, or-inside, done-inside, one-inside, spelled-inside, end-of-word-inside}
+use Rattle.recognisers.proofs.CommentLoops.{line-inside, block-inside}
 use Rattle.recognisers.proofs.ClosingQuote.{quoted-inside}
 use Rattle.recognisers.proofs.EscapedQuotes.{few-string, few-named}
 use Rattle.recognisers.proofs.Blanks.{blanks-inside}
@@ -88,7 +88,7 @@ pub spelled-some : (form : ℕ → ℕ) (w : ℕ) (word : List ℕ) (then : Take
 unfolding spelled
 spelled-some form w word then s = one-some (λ b. eqb (form b) w) (spelled form word then) s
 
-at-least : (k n : ℕ) → Least k (at_least k n)
+at-least : (k n : ℕ) → Least k (atLeast k n)
 at-least k n = go (leb k n) refl
   where
     go : (t : Bool) → leb k n ≡ t → Least k (cond t (Bytes n) Fails)
@@ -155,8 +155,8 @@ quote-sized s kind key pairs f least Fails k h m l = tt
 -- ---- each recogniser
 
 -- so many bytes, where there are that many at least
-run-sized : (kind : TokenKind) (k n : ℕ) (s : List ℕ) → 1 ≤ k → n ≤ length s → Sized s (tokenOf kind (at_least k n))
-run-sized kind k n s h l = token-sized s kind (at_least k n) (weaker (at_least k n) (at-least k n)) (cond-inside (leb k n) (Bytes n) (length s) l)
+run-sized : (kind : TokenKind) (k n : ℕ) (s : List ℕ) → 1 ≤ k → n ≤ length s → Sized s (tokenOf kind (atLeast k n))
+run-sized kind k n s h l = token-sized s kind (atLeast k n) (weaker (atLeast k n) (at-least k n)) (cond-inside (leb k n) (Bytes n) (length s) l)
   where
     weaker : (t : Taken) → Least k t → Least 1 t
     weaker (Bytes m) q = le_trans h q
@@ -164,11 +164,11 @@ run-sized kind k n s h l = token-sized s kind (at_least k n) (weaker (at_least k
 
 pub whitespace-sized : (s : List ℕ) → Sized s (getWhitespaceToken s)
 unfolding getWhitespaceToken inClass
-whitespace-sized s = run-sized K.Whitespace 1 (run isWhitespace 0 s) s (le_refl 1) (run_inside C.Whitespace 0 s)
+whitespace-sized s = run-sized K.Whitespace 1 (run isWhitespace 0 s) s (le_refl 1) (run-inside C.Whitespace 0 s)
 
 pub word-sized : (s : List ℕ) → Sized s (getWordToken s)
 unfolding getWordToken inClass
-word-sized s = run-sized K.Word 1 (run isWordCharacter 0 s) s (le_refl 1) (run_inside C.Word 0 s)
+word-sized s = run-sized K.Word 1 (run isWordCharacter 0 s) s (le_refl 1) (run-inside C.Word 0 s)
 
 pub operator-sized : (s : List ℕ) → Sized s (getOperatorToken s)
 unfolding getOperatorToken
@@ -177,9 +177,9 @@ operator-sized s =
 
 pub other-sized : (s : List ℕ) → Sized s (getAnyOtherChar s)
 unfolding getAnyOtherChar
-other-sized s = go (starts_with (byte "\n") s || starts_with (byte "\r") s)
+other-sized s = go (startsWith (byte "\n") s || startsWith (byte "\r") s)
   where
-    go : (t : Bool) → Sized s (tokenOf K.Operator (cond t Fails (at_least 1 (characterLength s))))
+    go : (t : Bool) → Sized s (tokenOf K.Operator (cond t Fails (atLeast 1 (characterLength s))))
     go true = tt
     go false = run-sized K.Operator 1 (characterLength s) s (le_refl 1) (character-inside s)
 
@@ -195,7 +195,7 @@ comment-sized s =
     (spelled-sized K.LineComment typed (byte "#") [] tillLineEnding line-inside s)
     (alt-sized s (tokenOf K.LineComment (spelled typed (bytes "--") tillLineEnding s)) _
     (spelled-sized K.LineComment typed (byte "-") (bytes "-") tillLineEnding line-inside s)
-    (spelled-sized K.BlockComment typed (byte "/") (bytes "*") throughBlockEnd block_inside s))
+    (spelled-sized K.BlockComment typed (byte "/") (bytes "*") throughBlockEnd block-inside s))
 
 pub type-specifier-sized : (allowed : Bool) (s : List ℕ) → Sized s (getTypeSpecifierToken allowed s)
 unfolding getTypeSpecifierToken
@@ -305,10 +305,10 @@ number-sized s =
 
 -- a mark, and a taker behind it
 mark-takes : (test : ℕ → Bool) (then : Taker) → Inside then → (s : List ℕ) → Takes 1 s (one test then s)
-mark-takes test then h s = record { least = one-some test then s; inside = one_inside test then h s }
+mark-takes test then h s = record { least = one-some test then s; inside = one-inside test then h s }
 
-number_fits : (n i : ℕ) → cond (ltb n (2 ^ 64)) (Is n) Overflows ≡ Is i → i < 2 ^ 64
-number_fits n i e = go (ltb n (2 ^ 64)) refl
+number-fits : (n i : ℕ) → cond (ltb n (2 ^ 64)) (Is n) Overflows ≡ Is i → i < 2 ^ 64
+number-fits n i e = go (ltb n (2 ^ 64)) refl
   where
     go : (t : Bool) → ltb n (2 ^ 64) ≡ t → i < 2 ^ 64
     go true q = let m : ◌≡◌ {A = Number} (Is n) (Is i) = rw q at e in let j : n ≡ i = cc in rw (← j) (ltb-true n (2 ^ 64) q)
@@ -316,12 +316,12 @@ number_fits n i e = go (ltb n (2 ^ 64)) refl
 
 indexed-key : (s : List ℕ) (n : ℕ) → 0 ≤ n → KeyFits n (indexedKey s n)
 unfolding indexedKey
-indexed-key s n h = go (leb n 1) (starts_with (byte "$") s) (number_of (take (n - 1) (drop 1 s))) refl
+indexed-key s n h = go (leb n 1) (startsWith (byte "$") s) (numberOf (take (n - 1) (drop 1 s))) refl
   where
-    go : (t f : Bool) (m : Number) → number_of (take (n - 1) (drop 1 s)) ≡ m → KeyFits n (cond t None (indexed f m))
+    go : (t f : Bool) (m : Number) → numberOf (take (n - 1) (drop 1 s)) ≡ m → KeyFits n (cond t None (indexed f m))
     go true f m e = tt
-    go false true (Is i) e = number_fits (numberFrom 0 (take (n - 1) (drop 1 s))) i e
-    go false false (Is i) e = number_fits (numberFrom 0 (take (n - 1) (drop 1 s))) i e
+    go false true (Is i) e = number-fits (numberFrom 0 (take (n - 1) (drop 1 s))) i e
+    go false false (Is i) e = number-fits (numberFrom 0 (take (n - 1) (drop 1 s))) i e
     go false f Overflows e = tt
 
 pub indexed-sized : (s : List ℕ) → Sized s (getIndexedPlaceholderToken s)

@@ -14,7 +14,7 @@ use borrow.Author.Tests.{lt-ltb, le-ltb, le-leb, lt-leb, eq-eqb, ne_eqb}
 use Rattle.characters.specs.Runs.{inClass, run}
 use Rattle.characters.specs.Classes.{isPlaceholderNameCharacter}
 use Rattle.characters.specs.declared.Class.TheVariants.{PlaceholderName}
-use Rattle.characters.proofs.RunLaws.{run_inside}
+use Rattle.characters.proofs.RunLaws.{run-inside}
 use Rattle.recognisers.specs.declared.Dialect.{Dialect}
 use Rattle.recognisers.specs.declared.Dialect.TheVariants.{Generic, PostgreSql, SQLServer}
 use Rattle.recognisers.specs.declared.Taken.{Taken}
@@ -27,10 +27,10 @@ use Rattle.recognisers.specs.declared.TokenKind.TheVariants.{Placeholder}
 use Rattle.recognisers.specs.declared.Recognised.TheVariants.{Token, Nothing}
 use Rattle.recognisers.specs.Text.{bytes}
 use Rattle.recognisers.specs.Pieces.{piece, quotePiece}
-use Rattle.recognisers.specs.Taking.{taken, more, done, one, typed, spelled, digit1, contains, starts_with, startsAmong}
+use Rattle.recognisers.specs.Taking.{taken, more, done, one, typed, spelled, digit1, contains, startsWith, startsAmong}
 use Rattle.recognisers.specs.Strings.{closedBy, inSQLServer, placeholderQuotedTaken, placeholderStringTaken}
-use Rattle.recognisers.specs.Placeholder.{numberFrom, number_of, indexed, indexedKey, indexedTaken, placeholderName, identTaken, throughBrace, bracedText, bracedTaken, hasEscape, stringKey, stringNamedTaken, stringNamedPairs, getIndexedPlaceholderToken, getIdentNamedPlaceholderToken, getBracedNamedPlaceholderToken, getStringNamedPlaceholderToken}
-use Rattle.recognisers.proofs.TakenInside.{Inside, or-inside, done-inside, one_inside, spelled-inside, cond-inside, fits_more}
+use Rattle.recognisers.specs.Placeholder.{numberFrom, numberOf, indexed, indexedKey, indexedTaken, placeholderName, identTaken, throughBrace, bracedText, bracedTaken, hasEscape, stringKey, stringNamedTaken, stringNamedPairs, getIndexedPlaceholderToken, getIdentNamedPlaceholderToken, getBracedNamedPlaceholderToken, getStringNamedPlaceholderToken}
+use Rattle.recognisers.proofs.TakenInside.{Inside, or-inside, done-inside, one-inside, spelled-inside, cond-inside, fits-more}
 use Rattle.recognisers.proofs.Digits.{digits-inside, marked-fits, marked-then, marked-not}
 use Rattle.recognisers.proofs.CommentLoops.{PassedAt, passed-more}
 use Rattle.recognisers.proofs.ClosingQuote.{quoted-inside}
@@ -56,15 +56,15 @@ module _ (s : List ℕ) where
     unfolding numberFrom
     next = rw (add-one i, c) (sym (rw (drop-cons s i 0 h)) ∙ at.same)
 
-    pub number_more : n ≤ (18446744073709551615 - d) / 10 → d < 2 ^ 64 → NumberAt s (n * 10 + d) (i + 1)
-    number_more f f₂ = record { inside = omega arith; fits = omega arith; same = next }
+    pub number-more : n ≤ (18446744073709551615 - d) / 10 → d < 2 ^ 64 → NumberAt s (n * 10 + d) (i + 1)
+    number-more f f₂ = record { inside = omega arith; fits = omega arith; same = next }
 
-    pub number-over : (18446744073709551615 - d) / 10 < n → Overflows ≡ number_of s
+    pub number-over : (18446744073709551615 - d) / 10 < n → Overflows ≡ numberOf s
     number-over f =
         let o : 2 ^ 64 ≤ numberFrom 0 s = le_trans (omega arith) (le_trans (grows (n * 10 + d) (drop (i + 1) s)) (le_of_eq next)) in
         rw (le-ltb (numberFrom 0 s) (2 ^ 64) o)
 
-  pub number-end : (n i : ℕ) → NumberAt s n i → length s ≤ i → Is n ≡ number_of s
+  pub number-end : (n i : ℕ) → NumberAt s n i → length s ≤ i → Is n ≡ numberOf s
   unfolding numberFrom
   number-end n i at h =
       let e : n ≡ numberFrom 0 s = rw (drop_of_length-le s h) at at.same in
@@ -78,25 +78,25 @@ module _ (number : Number) (n : ℕ) (e : number ≡ Is n) where
   indexed-zero t y = rw (e, y)
 
 module _ (s : List ℕ) (n : ℕ) where
-  pub no_index : n ≤ 1 → None ≡ indexedKey s n
+  pub no-index : n ≤ 1 → None ≡ indexedKey s n
   unfolding indexedKey
-  no_index h = rw (le-leb n 1 h)
+  no-index h = rw (le-leb n 1 h)
 
-  pub index_is : (t : Bool) (m : Number) (k : Key) → 1 < n → t ≡ starts_with 36 (drop 0 s) → m ≡ number_of (take (n - 1) (drop 1 s)) → k ≡ indexed t m → k ≡ indexedKey s n
+  pub index-is : (t : Bool) (m : Number) (k : Key) → 1 < n → t ≡ startsWith 36 (drop 0 s) → m ≡ numberOf (take (n - 1) (drop 1 s)) → k ≡ indexed t m → k ≡ indexedKey s n
   unfolding indexedKey
-  index_is t m k h f g q = q ∙ rw (lt-leb n 1 h, f, g)
+  index-is t m k h f g q = q ∙ rw (lt-leb n 1 h, f, g)
 
 -- ---- what is taken lies inside
 
 pub name-inside : Inside placeholderName
 unfolding placeholderName inClass
-name-inside s = cond-inside (leb 1 (run isPlaceholderNameCharacter 0 s)) (Bytes (run isPlaceholderNameCharacter 0 s)) (length s) (run_inside PlaceholderName 0 s)
+name-inside s = cond-inside (leb 1 (run isPlaceholderNameCharacter 0 s)) (Bytes (run isPlaceholderNameCharacter 0 s)) (length s) (run-inside PlaceholderName 0 s)
 
 indexed-inside : Inside indexedTaken
 unfolding indexedTaken
 indexed-inside s =
     or-inside (one (contains (bytes "?$")) (digit1 done) s) (spelled typed (bytes "?") done s) (length s)
-    (one_inside (contains (bytes "?$")) (digit1 done) digits-inside s)
+    (one-inside (contains (bytes "?$")) (digit1 done) digits-inside s)
     (spelled-inside typed (bytes "?") done done-inside s)
 
 brackets-inside : (dialect : Dialect) (s : List ℕ) → taken (inSQLServer dialect (spelled typed (bytes "[") (closedBy 93 (bytes "]"))) s) ≤ length s
@@ -119,7 +119,7 @@ placeholder-string-inside dialect s =
 
 string-named-inside : (dialect : Dialect) → Inside (stringNamedTaken dialect)
 unfolding stringNamedTaken
-string-named-inside dialect s = one_inside (contains (bytes "@:")) (placeholderStringTaken dialect) (placeholder-string-inside dialect) s
+string-named-inside dialect s = one-inside (contains (bytes "@:")) (placeholderStringTaken dialect) (placeholder-string-inside dialect) s
 
 -- n bytes were taken, so the rest has them
 module _ (s : List ℕ) (t : Taken) (n : ℕ) where
@@ -196,7 +196,7 @@ brace-inside (b ∷ s) = go (eqb b 125) (throughBrace s) (brace-inside s)
 
 pub braced-inside : Inside bracedText
 unfolding bracedText
-braced-inside s = go (starts_with 125 s) (brace-inside s)
+braced-inside s = go (startsWith 125 s) (brace-inside s)
   where
     go : (t : Bool) → taken (throughBrace s) ≤ length s → taken (cond t Fails (throughBrace s)) ≤ length s
     go true h = zero-le
@@ -212,9 +212,9 @@ module _ (quote : ℕ) (s : List ℕ) where
   pub escape-start : EscapeAt 0
   escape-start = record { inside = zero-le; same = refl }
 
-  module _ (i : ℕ) (r : Bool) (at : EscapeAt i) (h : i < length s) (c : r ≡ (starts_with 92 (drop i s) && starts_with quote (drop (i + 1) s))) where
-    pair : r ≡ (eqb (get_or s i 0) 92 && starts_with quote (drop (suc i) s))
-    unfolding starts_with
+  module _ (i : ℕ) (r : Bool) (at : EscapeAt i) (h : i < length s) (c : r ≡ (startsWith 92 (drop i s) && startsWith quote (drop (i + 1) s))) where
+    pair : r ≡ (eqb (get_or s i 0) 92 && startsWith quote (drop (suc i) s))
+    unfolding startsWith
     pair = c ∙ rw (drop-cons s i 0 h, add-one i)
 
     pub escape-here : r ≡ true → true ≡ hasEscape quote s
@@ -257,12 +257,12 @@ module _ (dialect : Dialect) (m s : List ℕ) (r : Bool) (e : r ≡ startsAmong 
 
   pub marked-string-fits : (t : Taken) → r ≡ true → t ≡ placeholderStringTaken dialect (take (length s - 1) (drop 1 s)) → length s < 2 ^ 64 → 1 + taken t < 2 ^ 64
   marked-string-fits t y q f =
-      fits_more (placeholderStringTaken dialect) (placeholder-string-inside dialect) s 1 t q (marked-fits (placeholderStringTaken dialect) m s r e y) f
+      fits-more (placeholderStringTaken dialect) (placeholder-string-inside dialect) s 1 t q (marked-fits (placeholderStringTaken dialect) m s r e y) f
 
-pub brace-first : (s : List ℕ) (r : Bool) → r ≡ starts_with 125 (drop 0 s) → r ≡ true → Fails ≡ bracedText s
+pub brace-first : (s : List ℕ) (r : Bool) → r ≡ startsWith 125 (drop 0 s) → r ≡ true → Fails ≡ bracedText s
 unfolding bracedText
 brace-first s r e t = rw (← e, t)
 
-pub brace-later : (s : List ℕ) (r : Bool) (q : Taken) → r ≡ starts_with 125 (drop 0 s) → r ≡ false → q ≡ throughBrace s → q ≡ bracedText s
+pub brace-later : (s : List ℕ) (r : Bool) (q : Taken) → r ≡ startsWith 125 (drop 0 s) → r ≡ false → q ≡ throughBrace s → q ≡ bracedText s
 unfolding bracedText
 brace-later s r q e t f = f ∙ rw (← e, t)

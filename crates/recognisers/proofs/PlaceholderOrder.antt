@@ -20,7 +20,7 @@ use Rattle.recognisers.specs.declared.Dialect.{Dialect}
 use Rattle.recognisers.specs.declared.Piece.{Piece}
 use Rattle.recognisers.specs.declared.Recognised.{Recognised}
 use Rattle.recognisers.specs.declared.Recognised.TheVariants.{Token, Nothing}
-use Rattle.recognisers.specs.Taking.{one, spelled, typed, isDigit, count, digit1, contains, starts_with}
+use Rattle.recognisers.specs.Taking.{one, spelled, typed, isDigit, count, digit1, contains, startsWith}
 use Rattle.recognisers.specs.Pieces.{alt}
 use Rattle.recognisers.specs.Placeholder.{placeholderName, indexedTaken, getIndexedPlaceholderToken, identTaken, getIdentNamedPlaceholderToken, bracedTaken, getBracedNamedPlaceholderToken, stringNamedTaken, getStringNamedPlaceholderToken, getPlaceholderToken}
 use Rattle.recognisers.proofs.FirstBytes.{alt-nothing}
@@ -80,40 +80,40 @@ module _ (dialect : Dialect) where
 
   -- ---- both
 
-  in_order : (named : Bool) (s : List ℕ) → starts_with 123 s ≡ false
-      → alt (cond (named && not (starts_with 63 s)) Nothing (getIndexedPlaceholderToken s)) (alt (getIdentNamedPlaceholderToken s) (getStringNamedPlaceholderToken dialect s)) ≡ getPlaceholderToken named dialect s
-  unfolding starts_with getPlaceholderToken getIdentNamedPlaceholderToken getStringNamedPlaceholderToken getIndexedPlaceholderToken getBracedNamedPlaceholderToken indexedTaken identTaken stringNamedTaken bracedTaken spelled one
-  in_order true [] n = refl
-  in_order false [] n = refl
-  in_order false (b ∷ s) n = places-first b s n
-  in_order true (b ∷ s) n = go (eqb b 63) refl
+  in-order : (named : Bool) (s : List ℕ) → startsWith 123 s ≡ false
+      → alt (cond (named && not (startsWith 63 s)) Nothing (getIndexedPlaceholderToken s)) (alt (getIdentNamedPlaceholderToken s) (getStringNamedPlaceholderToken dialect s)) ≡ getPlaceholderToken named dialect s
+  unfolding startsWith getPlaceholderToken getIdentNamedPlaceholderToken getStringNamedPlaceholderToken getIndexedPlaceholderToken getBracedNamedPlaceholderToken indexedTaken identTaken stringNamedTaken bracedTaken spelled one
+  in-order true [] n = refl
+  in-order false [] n = refl
+  in-order false (b ∷ s) n = places-first b s n
+  in-order true (b ∷ s) n = go (eqb b 63) refl
     where
       go : (t : Bool) → eqb b 63 ≡ t → alt (cond (not t) Nothing (getIndexedPlaceholderToken (b ∷ s))) (alt (getIdentNamedPlaceholderToken (b ∷ s)) (getStringNamedPlaceholderToken dialect (b ∷ s))) ≡ getPlaceholderToken true dialect (b ∷ s)
       go true q = rw (eqb-true b 63 q) (mark-first s)
       go false q = names-first b s q n
 
 -- as `without_braces` uses it
-module _ (named : Bool) (dialect : Dialect) (s : List ℕ) (n : starts_with 123 s ≡ false) (found : Recognised) (e : found ≡ cond (named && not (starts_with 63 s)) Nothing (getIndexedPlaceholderToken s)) where
+module _ (named : Bool) (dialect : Dialect) (s : List ℕ) (n : startsWith 123 s ≡ false) (found : Recognised) (e : found ≡ cond (named && not (startsWith 63 s)) Nothing (getIndexedPlaceholderToken s)) where
   pub index-found : (p : Piece) → found ≡ Token p → Token p ≡ getPlaceholderToken named dialect s
-  index-found p k = first-recognises _ _ found p e k ∙ in_order dialect named s n
+  index-found p k = first-recognises _ _ found p e k ∙ in-order dialect named s n
 
   pub name-found : (r : Recognised) → found ≡ Nothing → r ≡ alt (getIdentNamedPlaceholderToken s) (getStringNamedPlaceholderToken dialect s) → r ≡ getPlaceholderToken named dialect s
-  name-found r k f = rest-recognises _ _ found r e k f ∙ in_order dialect named s n
+  name-found r k f = rest-recognises _ _ found r e k f ∙ in-order dialect named s n
 
 -- as `index_before_name` uses it
 module _ (named p : Bool) (s : List ℕ) where
-  pub named-mark : (r : Recognised) → named ≡ true → p ≡ starts_with 63 (drop 0 s) → p ≡ true → r ≡ getIndexedPlaceholderToken s → r ≡ cond (named && not (starts_with 63 s)) Nothing (getIndexedPlaceholderToken s)
+  pub named-mark : (r : Recognised) → named ≡ true → p ≡ startsWith 63 (drop 0 s) → p ≡ true → r ≡ getIndexedPlaceholderToken s → r ≡ cond (named && not (startsWith 63 s)) Nothing (getIndexedPlaceholderToken s)
   named-mark r n e t f = f ∙ rw (n, ← e, t)
 
-  pub named_other : named ≡ true → p ≡ starts_with 63 (drop 0 s) → p ≡ false → Nothing ≡ cond (named && not (starts_with 63 s)) Nothing (getIndexedPlaceholderToken s)
-  named_other n e t = rw (n, ← e, t)
+  pub named-other : named ≡ true → p ≡ startsWith 63 (drop 0 s) → p ≡ false → Nothing ≡ cond (named && not (startsWith 63 s)) Nothing (getIndexedPlaceholderToken s)
+  named-other n e t = rw (n, ← e, t)
 
-pub unnamed : (named : Bool) (s : List ℕ) (r : Recognised) → named ≡ false → r ≡ getIndexedPlaceholderToken s → r ≡ cond (named && not (starts_with 63 s)) Nothing (getIndexedPlaceholderToken s)
+pub unnamed : (named : Bool) (s : List ℕ) (r : Recognised) → named ≡ false → r ≡ getIndexedPlaceholderToken s → r ≡ cond (named && not (startsWith 63 s)) Nothing (getIndexedPlaceholderToken s)
 unnamed named s r n f = f ∙ rw n
 
 -- as `try_placeholder` uses it
-pub braces-are : (named : Bool) (dialect : Dialect) (s : List ℕ) (p : Bool) (r : Recognised) → p ≡ starts_with 123 (drop 0 s) → p ≡ true → r ≡ getBracedNamedPlaceholderToken s → r ≡ getPlaceholderToken named dialect s
-unfolding starts_with getPlaceholderToken getIdentNamedPlaceholderToken getStringNamedPlaceholderToken getIndexedPlaceholderToken indexedTaken identTaken stringNamedTaken spelled one typed contains
+pub braces-are : (named : Bool) (dialect : Dialect) (s : List ℕ) (p : Bool) (r : Recognised) → p ≡ startsWith 123 (drop 0 s) → p ≡ true → r ≡ getBracedNamedPlaceholderToken s → r ≡ getPlaceholderToken named dialect s
+unfolding startsWith getPlaceholderToken getIdentNamedPlaceholderToken getStringNamedPlaceholderToken getIndexedPlaceholderToken indexedTaken identTaken stringNamedTaken spelled one typed contains
 braces-are named dialect [] p r e q f = absurd (false≢true (sym e ∙ q))
 braces-are true dialect (b ∷ s) p r e q f = f ∙ rw (eqb-true b 123 (sym e ∙ q))
 braces-are false dialect (b ∷ s) p r e q f = f ∙ rw (eqb-true b 123 (sym e ∙ q))

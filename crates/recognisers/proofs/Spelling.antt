@@ -11,7 +11,7 @@ use lib.ListN.{length, drop, take, get_or, drop_of_length-le}
 use lib.Seq.{drop-cons}
 use lib.Dec.{eqb}
 use borrow.Author.Tests.{eq-eqb, ne_eqb}
-use Rattle.characters.proofs.Rests.{part_end}
+use Rattle.characters.proofs.Rests.{part-end}
 use Rattle.recognisers.specs.declared.Taken.{Taken}
 use Rattle.recognisers.specs.declared.Taken.TheVariants.{Bytes, Fails}
 use Rattle.recognisers.specs.Taking.{Taker, more, done, one, spelled, isSpelled, typed}
@@ -71,11 +71,11 @@ module _ (form : ℕ → ℕ) where
 
   -- ---- a word and what follows
 
-  pub spelled_is : (w s : List ℕ) (then : Taker) → spelled form w then s ≡ cond (isSpelled form w s) (more (length w) (then (drop (length w) s))) Fails
+  pub spelled-is : (w s : List ℕ) (then : Taker) → spelled form w then s ≡ cond (isSpelled form w s) (more (length w) (then (drop (length w) s))) Fails
   unfolding spelled isSpelled one
-  spelled_is [] s then = sym (more-zero (then s))
-  spelled_is (x ∷ w) [] then = refl
-  spelled_is (x ∷ w) (y ∷ s) then = rw (spelled_is w s then) (go (eqb (form y) x) (isSpelled form w s))
+  spelled-is [] s then = sym (more-zero (then s))
+  spelled-is (x ∷ w) [] then = refl
+  spelled-is (x ∷ w) (y ∷ s) then = rw (spelled-is w s then) (go (eqb (form y) x) (isSpelled form w s))
     where
       go : (t u : Bool) → cond t (more 1 (cond u (more (length w) (then (drop (length w) s))) Fails)) Fails ≡ cond (t && u) (more (suc (length w)) (then (drop (length w) s))) Fails
       go true true = more-more 1 (length w) (then (drop (length w) s)) ∙ rw (one-add (length w))
@@ -83,17 +83,17 @@ module _ (form : ℕ → ℕ) where
       go false u = refl
 
   module _ (then : Taker) (w s : List ℕ) (r : Bool) (e : r ≡ isSpelled form w s) where
-    pub word_fits : r ≡ true → length w ≤ length s
-    word_fits t = spelled-fits w s (sym e ∙ t)
+    pub word-fits : r ≡ true → length w ≤ length s
+    word-fits t = spelled-fits w s (sym e ∙ t)
 
     pub word-then : (t q : Taken) → r ≡ true → t ≡ then (take (length s - length w) (drop (length w) s)) → q ≡ more (length w) t → q ≡ spelled form w then s
-    word-then t q y f g = g ∙ rw (spelled_is w s then, ← e, y, f, part_end s (length w))
+    word-then t q y f g = g ∙ rw (spelled-is w s then, ← e, y, f, part-end s (length w))
 
     pub word-alone : r ≡ true → Bytes (length w) ≡ spelled form w done s
-    word-alone y = sym (spelled_is w s done ∙ rw (← e, y) (ap Bytes (add-zero (length w))))
+    word-alone y = sym (spelled-is w s done ∙ rw (← e, y) (ap Bytes (add-zero (length w))))
 
     pub word-not : r ≡ false → Fails ≡ spelled form w then s
-    word-not n = sym (spelled_is w s then ∙ rw (← e, n))
+    word-not n = sym (spelled-is w s then ∙ rw (← e, n))
 
 -- the loop of `is_spelled` compares bytes as typed
 module _ (w s : List ℕ) (i : ℕ) (at : SpelledAt typed w s i) (h : i < length w) where

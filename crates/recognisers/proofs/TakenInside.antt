@@ -12,7 +12,7 @@ use Rattle.recognisers.specs.declared.Taken.{Taken}
 use Rattle.recognisers.specs.declared.Taken.TheVariants.{Bytes, Fails}
 use Rattle.recognisers.specs.Taking.{Taker, taken, more, or, done, one, spelled, endOfWord, digit1, digit0, count, isDigit}
 use Rattle.recognisers.proofs.ByteLoops.{count-inside}
-use Rattle.characters.proofs.Rests.{part_end}
+use Rattle.characters.proofs.Rests.{part-end}
 use Rattle.characters.specs.Classes.{isWordCharacter}
 use Rattle.characters.specs.Character.{codePoint}
 
@@ -34,15 +34,15 @@ or-inside Fails b k h l = l
 pub done-inside : Inside done
 done-inside s = zero-le
 
-pub one_inside : (test : ℕ → Bool) (then : Taker) → Inside then → Inside (one test then)
+pub one-inside : (test : ℕ → Bool) (then : Taker) → Inside then → Inside (one test then)
 unfolding one
-one_inside test then h [] = zero-le
-one_inside test then h (b ∷ s) = cond-inside (test b) (more 1 (then s)) (suc (length s)) (let m = more-at-most 1 (then s) in let k = h s in omega arith)
+one-inside test then h [] = zero-le
+one-inside test then h (b ∷ s) = cond-inside (test b) (more 1 (then s)) (suc (length s)) (let m = more-at-most 1 (then s) in let k = h s in omega arith)
 
 pub spelled-inside : (form : ℕ → ℕ) (w : List ℕ) (then : Taker) → Inside then → Inside (spelled form w then)
 unfolding spelled
 spelled-inside form [] then h s = h s
-spelled-inside form (x ∷ w) then h s = one_inside (λ b. eqb (form b) x) (spelled form w then) (spelled-inside form w then h) s
+spelled-inside form (x ∷ w) then h s = one-inside (λ b. eqb (form b) x) (spelled form w then) (spelled-inside form w then h) s
 
 pub end-of-word-inside : Inside endOfWord
 unfolding endOfWord
@@ -69,9 +69,9 @@ digit1-inside then h s =
     (then-inside (count isDigit s) then s (count-inside isDigit s) h)
 
 -- as a caller of `n_more` needs it: t is what a taker takes of the rest from n on
-pub fits_more : (part : Taker) → Inside part → (s : List ℕ) (n : ℕ) (t : Taken) → t ≡ part (take (length s - n) (drop n s)) → n ≤ length s → length s < 2 ^ 64 → n + taken t < 2 ^ 64
-fits_more part h s n t e l f =
+pub fits-more : (part : Taker) → Inside part → (s : List ℕ) (n : ℕ) (t : Taken) → t ≡ part (take (length s - n) (drop n s)) → n ≤ length s → length s < 2 ^ 64 → n + taken t < 2 ^ 64
+fits-more part h s n t e l f =
     let k = h (drop n s) in
-    let q : t ≡ part (drop n s) = rw (part_end s n) at e in
+    let q : t ≡ part (drop n s) = rw (part-end s n) at e in
     let m : taken t ≤ length (drop n s) = rw q k in
     omega (arith, length-drop n s)

@@ -13,11 +13,11 @@ use lib.ListN.{length, drop, take, get_or, set, drop_of_length-le, length-drop}
 use lib.Seq.{drop-cons, drop-drop}
 use lib.Dec.{eqb}
 use borrow.Author.Tests.{eqb-true, eq-eqb, ne_eqb}
-use Rattle.characters.proofs.Rests.{part_end}
+use Rattle.characters.proofs.Rests.{part-end}
 use Rattle.recognisers.specs.declared.Taken.{Taken}
 use Rattle.recognisers.specs.declared.Taken.TheVariants.{Bytes, Fails}
 use Rattle.recognisers.specs.Text.{bytes}
-use Rattle.recognisers.specs.Taking.{Taker, more, contains, starts_with}
+use Rattle.recognisers.specs.Taking.{Taker, more, contains, startsWith}
 use Rattle.recognisers.specs.Strings.{takeTillEscaping}
 use Rattle.recognisers.specs.Comment.{tillLineEnding}
 use Rattle.recognisers.specs.Placeholder.{throughBrace, bracedText}
@@ -36,19 +36,19 @@ module _ (d : ℕ) (esc : List ℕ) where
 
   -- law 1: the state before a byte that is not the quote is `false`
   abbrev pub Unclosed : List ℕ → Type 0
-  Unclosed s = (q : ℕ) → starts_with d (drop q s) ≡ false → till (drop q s) ≡ Fails
+  Unclosed s = (q : ℕ) → startsWith d (drop q s) ≡ false → till (drop q s) ≡ Fails
 
-  pub unclosed-from : (behind : Bool) (s : List ℕ) → (behind ≡ true → starts_with d s ≡ true) → takeTillEscaping d esc behind s ≡ Fails → Unclosed s
-  unfolding takeTillEscaping starts_with
+  pub unclosed-from : (behind : Bool) (s : List ℕ) → (behind ≡ true → startsWith d s ≡ true) → takeTillEscaping d esc behind s ≡ Fails → Unclosed s
+  unfolding takeTillEscaping startsWith
   unclosed-from behind [] b e zero n = refl
   unclosed-from behind [] b e (suc q) n = refl
   unclosed-from true (c ∷ s) b e zero n = absurd (false≢true (sym n ∙ b refl))
   unclosed-from true (c ∷ s) b e (suc q) n = unclosed-from false s (λ f. absurd (false≢true f)) (more-fails 1 (till s) e) q n
   unclosed-from false (c ∷ s) b e zero n = e
   unclosed-from false (c ∷ s) b e (suc q) n =
-      unclosed-from (contains esc c && starts_with d s) s
-      (λ f. ((and-eq-true_iff (contains esc c) (starts_with d s)).0 f).1)
-      (go (not (contains esc c && starts_with d s) && eqb c d) (takeTillEscaping d esc (contains esc c && starts_with d s) s) e)
+      unclosed-from (contains esc c && startsWith d s) s
+      (λ f. ((and-eq-true_iff (contains esc c) (startsWith d s)).0 f).1)
+      (go (not (contains esc c && startsWith d s) && eqb c d) (takeTillEscaping d esc (contains esc c && startsWith d s) s) e)
       q n
     where
       go : (t : Bool) (o : Taken) → cond t (Bytes 0) (more 1 o) ≡ Fails → o ≡ Fails
@@ -62,20 +62,20 @@ module _ (d : ℕ) (esc : List ℕ) where
   pub known-drop : (s : List ℕ) (k n : ℕ) → Known d esc s k → Known d esc (drop n s) k
   known-drop s k n h = record { fails = λ q l e. rw (drop-drop q n s) (h.fails (n + q) (rw (drop-drop q n s) at l) (rw (drop-drop q n s) at e)) }
 
-  none_left : (r : List ℕ) → length r ≤ 0 → till r ≡ Fails
+  none-left : (r : List ℕ) → length r ≤ 0 → till r ≡ Fails
   unfolding takeTillEscaping
-  none_left [] l = refl
-  none_left (b ∷ r) l = absurd (not-suc-le-zero l)
+  none-left [] l = refl
+  none-left (b ∷ r) l = absurd (not-suc-le-zero l)
 
   -- nothing is known at first
   pub known-none : (s : List ℕ) → Known d esc s 0
-  known-none s = record { fails = λ q l e. none_left (drop q s) l }
+  known-none s = record { fails = λ q l e. none-left (drop q s) l }
 
   -- a look that has failed says all of what stands behind it
   pub known-failed : (s : List ℕ) (n : ℕ) → n ≤ length s → till (drop n s) ≡ Fails → Known d esc s (length s - n)
   known-failed s n i e = record { fails = λ q l f. behind q l f }
     where
-      behind : (q : ℕ) → length (drop q s) ≤ length s - n → starts_with d (drop q s) ≡ false → till (drop q s) ≡ Fails
+      behind : (q : ℕ) → length (drop q s) ≤ length s - n → startsWith d (drop q s) ≡ false → till (drop q s) ≡ Fails
       behind q l f =
           let le : n ≤ q = omega (arith, length-drop q s) in
           let back : n + (q - n) ≡ q = omega arith in
@@ -83,39 +83,39 @@ module _ (d : ℕ) (esc : List ℕ) where
           rw (← same) (unclosed (drop n s) e (q - n) (rw same f))
 
   -- law 3: where the rest is known, a look ends where the run of quotes at its start ends
-  pub run_ends : (s : List ℕ) (k i : ℕ) → Known d esc s k → length s ≤ k → PassedAt till s i → starts_with d (drop i s) ≡ false → Fails ≡ till s
-  run_ends s k i h l at e = sym (at.same ∙ ap (more i) (h.fails i (rw length-drop (omega arith)) e))
+  pub run-ends : (s : List ℕ) (k i : ℕ) → Known d esc s k → length s ≤ k → PassedAt till s i → startsWith d (drop i s) ≡ false → Fails ≡ till s
+  run-ends s k i h l at e = sym (at.same ∙ ap (more i) (h.fails i (rw length-drop (omega arith)) e))
 
-  pub run-ends-at : (s : List ℕ) (k i : ℕ) (r : Bool) → Known d esc s k → length s ≤ k → PassedAt till s i → r ≡ starts_with d (drop i s) → r ≡ false → Fails ≡ till s
-  run-ends-at s k i r h l at e f = run_ends s k i h l at (sym e ∙ f)
+  pub run-ends-at : (s : List ℕ) (k i : ℕ) (r : Bool) → Known d esc s k → length s ≤ k → PassedAt till s i → r ≡ startsWith d (drop i s) → r ≡ false → Fails ≡ till s
+  run-ends-at s k i r h l at e f = run-ends s k i h l at (sym e ∙ f)
 
   -- as a call on a part of the text has it
   pub known-failed-part : (s : List ℕ) (n : ℕ) (t : Taken) → n ≤ length s → t ≡ till (take (length s - n) (drop n s)) → t ≡ Fails → Known d esc s (length s - n)
-  known-failed-part s n t i e f = known-failed s n i (ap till (sym (part_end s n)) ∙ sym e ∙ f)
+  known-failed-part s n t i e f = known-failed s n i (ap till (sym (part-end s n)) ∙ sym e ∙ f)
 
   pub known-part : (s : List ℕ) (k n : ℕ) → Known d esc s k → Known d esc (take (length s - n) (drop n s)) k
-  known-part s k n h = rw (part_end s n) (known-drop s k n h)
+  known-part s k n h = rw (part-end s n) (known-drop s k n h)
 
-  module _ (s : List ℕ) (i : ℕ) (r : Bool) (e : r ≡ starts_with d (drop i s)) (y : r ≡ true) where
-    pub run_inside : i < length s
-    run_inside = let o = starts-some d (drop i s) (sym e ∙ y) in omega (arith, length-drop i s)
+  module _ (s : List ℕ) (i : ℕ) (r : Bool) (e : r ≡ startsWith d (drop i s)) (y : r ≡ true) where
+    pub run-inside : i < length s
+    run-inside = let o = starts-some d (drop i s) (sym e ∙ y) in omega (arith, length-drop i s)
 
     run-byte : get_or s i 0 ≡ d
-    unfolding starts_with
-    run-byte = eqb-true (get_or s i 0) d (go (drop-cons s i 0 run_inside) (sym e ∙ y))
+    unfolding startsWith
+    run-byte = eqb-true (get_or s i 0) d (go (drop-cons s i 0 run-inside) (sym e ∙ y))
       where
-        go : drop i s ≡ get_or s i 0 ∷ drop (suc i) s → starts_with d (drop i s) ≡ true → eqb (get_or s i 0) d ≡ true
+        go : drop i s ≡ get_or s i 0 ∷ drop (suc i) s → startsWith d (drop i s) ≡ true → eqb (get_or s i 0) d ≡ true
         go f g = rw f at g
 
-    module _ (p : Bool) (at : PassedAt till s i) (c : p ≡ (starts_with d (drop (i + 1) s) && contains esc (get_or s i 0))) where
+    module _ (p : Bool) (at : PassedAt till s i) (c : p ≡ (startsWith d (drop (i + 1) s) && contains esc (get_or s i 0))) where
       pub run-two : p ≡ true → PassedAt till s (i + 2)
-      run-two t = quote-two d esc s i p at run_inside c t
+      run-two t = quote-two d esc s i p at run-inside c t
 
       pub run-less : p ≡ true → length s - (i + 2) < length s - i
       run-less t = let m = run-two t in omega (arith, m.inside)
 
       pub run-here : p ≡ false → Bytes i ≡ till s
-      run-here t = quote-here d esc s i p at run_inside c t run-byte
+      run-here t = quote-here d esc s i p at run-inside c t run-byte
 
 -- ---- a part that fails
 
@@ -124,14 +124,14 @@ module _ (taker : Taker) where
   barren-drop s l m n h = record { fails = λ q a b. rw (drop-drop q n s) (h.fails (n + q) (rw (drop-drop q n s) at a) (rw (drop-drop q n s) at b)) }
 
   barren-part : (s : List ℕ) (l m n : ℕ) → Barren taker s l m → Barren taker (take (length s - n) (drop n s)) l m
-  barren-part s l m n h = rw (part_end s n) (barren-drop s l m n h)
+  barren-part s l m n h = rw (part-end s n) (barren-drop s l m n h)
 
   -- what is known of a part up to the end is known of the whole
   pub barren-whole : (s : List ℕ) (l n : ℕ) → n ≤ length s → Barren taker (take (length s - n) (drop n s)) l (length (take (length s - n) (drop n s))) → Barren taker s l (length s - n)
   barren-whole s l n i h = record { fails = λ q a b. behind q a b }
     where
       rest : Barren taker (drop n s) l (length (drop n s))
-      rest = rw (part_end s n) at h
+      rest = rw (part-end s n) at h
 
       behind : (q : ℕ) → l ≤ length (drop q s) → length (drop q s) ≤ length s - n → taker (drop q s) ≡ Fails
       behind q a b =
@@ -184,11 +184,11 @@ module _ (s : List ℕ) (i : ℕ) (at : LineAt s i) (h : i < length s) where
   unfolding tillLineEnding
   line-at-on n m = line-at-more (rw (drop-cons s i 0 h, ne_eqb (get_or s i 0) 10 n, ne_eqb (get_or s i 0) 13 m))
 
-  pub line-at-lone : (get_or s i 0 ≡ 10 → ⊥) → get_or s i 0 ≡ 13 → (r : Bool) → r ≡ starts_with 10 (drop (i + 1) s) → r ≡ false → Barren tillLineEnding s (length s - i) (length s)
+  pub line-at-lone : (get_or s i 0 ≡ 10 → ⊥) → get_or s i 0 ≡ 13 → (r : Bool) → r ≡ startsWith 10 (drop (i + 1) s) → r ≡ false → Barren tillLineEnding s (length s - i) (length s)
   unfolding tillLineEnding
   line-at-lone n e r c t = record { fails = λ q a b. go q a }
     where
-      c' : r ≡ starts_with 10 (drop (suc i) s)
+      c' : r ≡ startsWith 10 (drop (suc i) s)
       c' = rw (add-one i) at c
 
       lone : tillLineEnding (drop i s) ≡ Fails
@@ -262,11 +262,11 @@ module _ (h s : List ℕ) (t : Truthful h s) where
   unfolding Truthful
   brace-known m = sym (t.brace.fails 0 zero-le m)
 
-  pub line_known : get_or h 4 0 ≤ length s → length s ≤ get_or h 5 0 → Fails ≡ tillLineEnding s
+  pub line-known : get_or h 4 0 ≤ length s → length s ≤ get_or h 5 0 → Fails ≡ tillLineEnding s
   unfolding Truthful
-  line_known l m = sym (t.line.fails 0 l m)
+  line-known l m = sym (t.line.fails 0 l m)
 
-  pub brace-unclosed : (r : Bool) → r ≡ starts_with 125 (drop 0 s) → r ≡ false → length s ≤ get_or h 3 0 → Fails ≡ bracedText s
+  pub brace-unclosed : (r : Bool) → r ≡ startsWith 125 (drop 0 s) → r ≡ false → length s ≤ get_or h 3 0 → Fails ≡ bracedText s
   unfolding bracedText
   brace-unclosed r e f m = brace-known m ∙ rw (← e, f)
 

@@ -11,7 +11,7 @@ use Rattle.recognisers.specs.declared.TokenKind.TheVariants.{Placeholder}
 use Rattle.recognisers.specs.declared.Recognised.{Recognised}
 use Rattle.recognisers.specs.declared.Recognised.TheVariants.{Token, Nothing}
 use Rattle.recognisers.specs.Text.{byte, bytes}
-use Rattle.recognisers.specs.Taking.{Taker, more, or, done, one, literal, digit1, at_least, contains, starts_with}
+use Rattle.recognisers.specs.Taking.{Taker, more, or, done, one, literal, digit1, atLeast, contains, startsWith}
 use Rattle.recognisers.specs.Strings.{placeholderStringTaken, placeholderStringPairs}
 use Rattle.recognisers.specs.Pieces.{piece, quoteToken, alt}
 use Rattle.characters.specs.Classes.{isPlaceholderNameCharacter}
@@ -28,8 +28,8 @@ numberFrom n [] = n
 numberFrom n (d ∷ digits) = numberFrom (n * 10 + (d - byte "0")) digits
 
 -- that number where it fits 64 bits
-abbrev pub number_of : List ℕ → Number
-number_of digits = cond (ltb (numberFrom 0 digits) (2 ^ 64)) (Is (numberFrom 0 digits)) Overflows
+abbrev pub numberOf : List ℕ → Number
+numberOf digits = cond (ltb (numberFrom 0 digits) (2 ^ 64)) (Is (numberFrom 0 digits)) Overflows
 
 abbrev pub indexed : Bool → Number → Key
 indexed fromOne (Is n) = cond fromOne (OneIndexed n) (ZeroIndexed n)
@@ -37,7 +37,7 @@ indexed fromOne Overflows = None
 
 -- the key of a mark and n - 1 digits: none without digits, and none where the number does not fit 64 bits
 unfoldable pub indexedKey : List ℕ → ℕ → Key
-indexedKey s n = cond (leb n 1) None (indexed (starts_with (byte "$") s) (number_of (take (n - 1) (drop 1 s))))
+indexedKey s n = cond (leb n 1) None (indexed (startsWith (byte "$") s) (numberOf (take (n - 1) (drop 1 s))))
 
 unfoldable pub indexedTaken : Taker
 indexedTaken s = or (one (contains (bytes "?$")) (digit1 done) s) (literal (bytes "?") done s)
@@ -47,7 +47,7 @@ getIndexedPlaceholderToken s = keyed (indexedKey s) (indexedTaken s)
 
 -- the characters of a placeholder's name, one at least
 unfoldable pub placeholderName : Taker
-placeholderName s = at_least 1 (run isPlaceholderNameCharacter 0 s)
+placeholderName s = atLeast 1 (run isPlaceholderNameCharacter 0 s)
 
 unfoldable pub identTaken : Taker
 identTaken s = one (contains (bytes "@:$")) placeholderName s
@@ -62,7 +62,7 @@ throughBrace (b ∷ s) = cond (eqb b (byte "}")) (Bytes 1) (more 1 (throughBrace
 
 -- what stands between the braces must not be empty
 unfoldable pub bracedText : Taker
-bracedText s = cond (starts_with (byte "}") s) Fails (throughBrace s)
+bracedText s = cond (startsWith (byte "}") s) Fails (throughBrace s)
 
 unfoldable pub bracedTaken : Taker
 bracedTaken s = literal (bytes "{") bracedText s
@@ -73,7 +73,7 @@ getBracedNamedPlaceholderToken s = keyed (λ n. Named 1 (n - 2)) (bracedTaken s)
 -- a backslash directly before the quote
 unfoldable pub hasEscape : ℕ → List ℕ → Bool
 hasEscape quote [] = false
-hasEscape quote (b ∷ s) = (eqb b (byte "\\") && starts_with quote s) || hasEscape quote s
+hasEscape quote (b ∷ s) = (eqb b (byte "\\") && startsWith quote s) || hasEscape quote s
 
 -- the key of a string placeholder: its text without the mark, the byte after that, and the closing quote. It has escapes
 -- to undo where a backslash stands in it before the quote character.

@@ -7,7 +7,7 @@ use Rattle.recognisers.specs.declared.Key.TheVariants.{None}
 use Rattle.recognisers.specs.declared.TokenKind.TheVariants.{String}
 use Rattle.recognisers.specs.declared.Recognised.{Recognised}
 use Rattle.recognisers.specs.Text.{byte, bytes}
-use Rattle.recognisers.specs.Taking.{Taker, more, or, literal, contains, starts_with, startsAmong}
+use Rattle.recognisers.specs.Taking.{Taker, more, or, literal, contains, startsWith, startsAmong}
 use Rattle.recognisers.specs.Pieces.{quoteToken}
 
 -- How many bytes stand before the first `desired` byte that is neither escaped nor an escape; it fails where there is none.
@@ -17,16 +17,16 @@ unfoldable pub takeTillEscaping : ℕ → List ℕ → Bool → Taker
 takeTillEscaping desired escapes behind [] = Fails
 takeTillEscaping desired escapes true (b ∷ s) = more 1 (takeTillEscaping desired escapes false s)
 takeTillEscaping desired escapes false (b ∷ s) =
-    cond (not (contains escapes b && starts_with desired s) && eqb b desired) (Bytes 0)
-    (more 1 (takeTillEscaping desired escapes (contains escapes b && starts_with desired s) s))
+    cond (not (contains escapes b && startsWith desired s) && eqb b desired) (Bytes 0)
+    (more 1 (takeTillEscaping desired escapes (contains escapes b && startsWith desired s) s))
 
 -- How many pairs it passes on that way: it walks alike, and counts the byte behind an escape.
 unfoldable pub pairsPassed : ℕ → List ℕ → Bool → List ℕ → ℕ
 pairsPassed desired escapes behind [] = 0
 pairsPassed desired escapes true (b ∷ s) = suc (pairsPassed desired escapes false s)
 pairsPassed desired escapes false (b ∷ s) =
-    cond (not (contains escapes b && starts_with desired s) && eqb b desired) 0
-    (pairsPassed desired escapes (contains escapes b && starts_with desired s) s)
+    cond (not (contains escapes b && startsWith desired s) && eqb b desired) 0
+    (pairsPassed desired escapes (contains escapes b && startsWith desired s) s)
 
 -- the text up to its closing quote, and that
 unfoldable pub closedBy : ℕ → List ℕ → Taker
@@ -63,10 +63,10 @@ pairsBehind n desired escapes value = pairsPassed desired escapes false (drop n 
 -- which letters may stand before a single quote. Hexadecimal strings know no escapes.
 unfoldable pub pairsIn : List ℕ → List ℕ → List ℕ → List ℕ → ℕ
 pairsIn single double letters value =
-    cond (starts_with (byte "`") value) (pairsBehind 1 (byte "`") (bytes "`") value)
-    (cond (starts_with (byte "[") value) (pairsBehind 1 (byte "]") (bytes "]") value)
-    (cond (starts_with (byte "\"") value) (pairsBehind 1 (byte "\"") double value)
-    (cond (starts_with (byte "'") value) (pairsBehind 1 (byte "'") single value)
+    cond (startsWith (byte "`") value) (pairsBehind 1 (byte "`") (bytes "`") value)
+    (cond (startsWith (byte "[") value) (pairsBehind 1 (byte "]") (bytes "]") value)
+    (cond (startsWith (byte "\"") value) (pairsBehind 1 (byte "\"") double value)
+    (cond (startsWith (byte "'") value) (pairsBehind 1 (byte "'") single value)
     (cond (startsAmong letters value) (pairsBehind 2 (byte "'") single value) 0))))
 
 unfoldable pub stringPairs : List ℕ → ℕ

@@ -81,8 +81,8 @@ unfoldable pub digit0 : Taker → Taker
 digit0 then s = more (count isDigit s) (then (drop (count isDigit s) s))
 
 -- so many bytes, where there are that many at least
-abbrev pub at_least : ℕ → ℕ → Taken
-at_least least n = cond (leb least n) (Bytes n) Fails
+abbrev pub atLeast : ℕ → ℕ → Taken
+atLeast least n = cond (leb least n) (Bytes n) Fails
 
 -- how many bytes were taken
 abbrev pub taken : Taken → ℕ
@@ -95,9 +95,9 @@ contains [] b = false
 contains (e ∷ bytes) b = eqb b e || contains bytes b
 
 -- the byte stands at the start
-unfoldable pub starts_with : ℕ → List ℕ → Bool
-starts_with b [] = false
-starts_with b (c ∷ s) = eqb c b
+unfoldable pub startsWith : ℕ → List ℕ → Bool
+startsWith b [] = false
+startsWith b (c ∷ s) = eqb c b
 
 -- one of the bytes stands at the start
 unfoldable pub startsAmong : List ℕ → List ℕ → Bool

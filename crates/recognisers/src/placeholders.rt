@@ -1,11 +1,11 @@
 // The four placeholders and their keys.
 ghost use Rattle.std.specs.Prelude.{◌≡◌, false, not, cond, ◌&&◌, ◌-◌, ◌≤◌, length};
-ghost use Rattle.recognisers.specs.Taking.{one, literal, contains, starts_with};
+ghost use Rattle.recognisers.specs.Taking.{one, literal, contains, startsWith};
 ghost use Rattle.recognisers.specs.Text.{byte};
 ghost use Rattle.recognisers.specs.Pieces.{alt};
 ghost use Rattle.recognisers.specs.declared.Recognised.TheVariants.{Nothing};
 ghost use Rattle.recognisers.specs.Strings.{placeholderStringTaken};
-ghost use Rattle.recognisers.specs.Placeholder.{number_of, indexed, indexedKey, indexedTaken, getIndexedPlaceholderToken, placeholderName, identTaken, getIdentNamedPlaceholderToken, throughBrace, bracedText, bracedTaken, getBracedNamedPlaceholderToken, hasEscape, stringKey, stringNamedTaken, getStringNamedPlaceholderToken, getPlaceholderToken};
+ghost use Rattle.recognisers.specs.Placeholder.{numberOf, indexed, indexedKey, indexedTaken, getIndexedPlaceholderToken, placeholderName, identTaken, getIdentNamedPlaceholderToken, throughBrace, bracedText, bracedTaken, getBracedNamedPlaceholderToken, hasEscape, stringKey, stringNamedTaken, getStringNamedPlaceholderToken, getPlaceholderToken};
 ghost use Rattle.recognisers.specs.Inner.Known.{Truthful};
 
 use crate::escaped_quotes::string_named_pairs;
@@ -26,7 +26,7 @@ fn digit_of(b: u8) -> u64
 
 // The number that the digits spell, where it fits 64 bits.
 fn number_of(digits: &[u8]) -> Number
-    ensures { result ≡ number_of digits.now }
+    ensures { result ≡ numberOf digits.now }
 {
     let mut n: u64 = 0;
     let mut i = 0;
@@ -281,7 +281,7 @@ pub fn get_string_named_placeholder_token(
 
 // An index, where it comes before a name: always with places first, else behind `?`, where no name can stand.
 fn index_before_name(rest: &[u8], named: bool) -> Recognised
-    ensures { result ≡ cond (named && not (starts_with (byte "?") rest.now)) Nothing (getIndexedPlaceholderToken rest.now) }
+    ensures { result ≡ cond (named && not (startsWith (byte "?") rest.now)) Nothing (getIndexedPlaceholderToken rest.now) }
 {
     if named {
         if stands_at(rest, 0, b'?') {
@@ -305,7 +305,7 @@ fn name_or_string(rest: &[u8], dialect: Dialect, hints: &[usize]) -> Recognised
 // Each alternative is tried only where those before it recognise nothing: `$1$1..` would be one long name.
 fn without_braces(rest: &[u8], named: bool, dialect: Dialect, hints: &[usize]) -> Recognised
     requires truthful { Truthful hints.now rest.now }
-    requires rest_value { starts_with (byte "{") rest.now ≡ false }
+    requires rest_value { startsWith (byte "{") rest.now ≡ false }
     ensures { result ≡ getPlaceholderToken named dialect rest.now }
 {
     match index_before_name(rest, named) {

@@ -1,7 +1,7 @@
 // What the recognisers are made of.
 ghost use Rattle.std.specs.Prelude.{◌≡◌, ◌+◌, ◌^◌, ◌<◌, leb, eqb, ◌&&◌, length, drop};
 ghost use Rattle.characters.specs.Ranges.{within};
-ghost use Rattle.recognisers.specs.Taking.{taken, more, or, done, literal, caseless, typed, capital, isSpelled, endOfWord, isDigit, count, at_least, contains, starts_with, startsAmong};
+ghost use Rattle.recognisers.specs.Taking.{taken, more, or, done, literal, caseless, typed, capital, isSpelled, endOfWord, isDigit, count, atLeast, contains, startsWith, startsAmong};
 ghost use Rattle.recognisers.specs.Pieces.{tokenOf};
 ghost use Rattle.recognisers.specs.Inner.WordLength.{wordLength};
 
@@ -40,7 +40,7 @@ pub fn is_spelled(rest: &[u8], word: &[u8]) -> bool
 
 // The byte at i is b.
 pub fn stands_at(rest: &[u8], i: usize, b: u8) -> bool
-    ensures { result ≡ starts_with b (drop i rest.now) }
+    ensures { result ≡ startsWith b (drop i rest.now) }
 {
     if i < rest.len() {
         return rest[i] == b;
@@ -51,7 +51,7 @@ pub fn stands_at(rest: &[u8], i: usize, b: u8) -> bool
 // The bytes at i are a and b.
 pub fn pair_stands_at(rest: &[u8], i: usize, a: u8, b: u8) -> bool
     requires { i < length rest.now }
-    ensures { result ≡ (starts_with a (drop i rest.now) && starts_with b (drop (i + 1) rest.now)) }
+    ensures { result ≡ (startsWith a (drop i rest.now) && startsWith b (drop (i + 1) rest.now)) }
 {
     stands_at(rest, i, a) && stands_at(rest, i + 1, b)
 }
@@ -161,7 +161,7 @@ pub fn first_of(a: Taken, b: Taken) -> Taken
 }
 
 pub fn at_least(least: usize, n: usize) -> Taken
-    ensures { result ≡ at_least least n }
+    ensures { result ≡ atLeast least n }
 {
     if least <= n {
         Taken::Bytes(n)

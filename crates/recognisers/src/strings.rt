@@ -1,7 +1,7 @@
 // `take_till_escaping`, `get_string_token` and `get_placeholder_string_token`.
 ghost use Rattle.std.specs.Prelude.{◌≡◌, true, false, ◌&&◌, ◌+◌, ◌<◌, length, drop, get_or};
 ghost use Rattle.recognisers.specs.Text.{byte, bytes};
-ghost use Rattle.recognisers.specs.Taking.{more, or, literal, contains, starts_with};
+ghost use Rattle.recognisers.specs.Taking.{more, or, literal, contains, startsWith};
 ghost use Rattle.recognisers.specs.Strings.{takeTillEscaping, closedBy, inSQLServer, hexTaken, stringTaken, getStringToken, placeholderStringTaken};
 ghost use Rattle.recognisers.specs.Inner.Known.{Known, Truthful};
 
@@ -13,7 +13,7 @@ use crate::{Dialect, Key, Piece, Recognised, Taken, TokenKind};
 // An escape stands at i, and the desired byte behind it.
 pub fn escaped_at(rest: &[u8], i: usize, desired: u8, escapes: &[u8]) -> bool
     requires { i < length rest.now }
-    ensures { result ≡ (starts_with desired (drop (i + 1) rest.now) && contains escapes.now (get_or rest.now i 0)) }
+    ensures { result ≡ (startsWith desired (drop (i + 1) rest.now) && contains escapes.now (get_or rest.now i 0)) }
 {
     stands_at(rest, i + 1, desired) && is_among(escapes, rest[i])
 }
@@ -92,7 +92,7 @@ fn quoted_known(rest: &[u8], desired: u8, escapes: &[u8], known: usize) -> Taken
 
 fn bracketed(rest: &[u8], dialect: Dialect, hints: &[usize]) -> Taken
     requires truthful { Truthful hints.now rest.now }
-    requires rest_value { starts_with (byte "[") rest.now ≡ true }
+    requires rest_value { startsWith (byte "[") rest.now ≡ true }
     ensures { result ≡ inSQLServer dialect (literal (bytes "[") (closedBy (byte "]") (bytes "]"))) rest.now }
 {
     match dialect {

@@ -1,6 +1,6 @@
 // `get_whitespace_token`, `get_operator_token`, `get_word_token` and `get_any_other_char`.
 ghost use Rattle.std.specs.Prelude.{◌≡◌, ◌||◌, min};
-ghost use Rattle.recognisers.specs.Taking.{count, starts_with};
+ghost use Rattle.recognisers.specs.Taking.{count, startsWith};
 ghost use Rattle.recognisers.specs.Text.{byte};
 ghost use Rattle.recognisers.specs.Inner.WordLength.{wordLength};
 ghost use Rattle.characters.specs.Classes.{isWordCharacter};
@@ -94,7 +94,7 @@ pub fn get_word_token(rest: &[u8], word: usize) -> Recognised
 }
 
 fn is_line_break(rest: &[u8]) -> bool
-    ensures { result ≡ (starts_with (byte "\n") rest.now || starts_with (byte "\r") rest.now) }
+    ensures { result ≡ (startsWith (byte "\n") rest.now || startsWith (byte "\r") rest.now) }
 {
     stands_at(rest, 0, b'\n') || stands_at(rest, 0, b'\r')
 }

@@ -10,7 +10,7 @@ use lib.Seq.{drop-drop}
 use Rattle.recognisers.specs.declared.Taken.{Taken}
 use Rattle.recognisers.specs.declared.Taken.TheVariants.{Bytes, Fails}
 use Rattle.recognisers.specs.Taking.{Taker, more, done, typed, isSpelled, literal}
-use Rattle.recognisers.proofs.Spelling.{more-more, spelled_is}
+use Rattle.recognisers.proofs.Spelling.{more-more, spelled-is}
 use Rattle.reserved.specs.UcChoices.{behind}
 
 pub behind-behind : (t : Taken) (a b : Taker) (s : List ℕ) → behind (behind t a s) b s ≡ behind t (λ u. behind (a u) b u) s
@@ -32,4 +32,4 @@ bytes-behind false n then s = refl
 
 pub literal-behind : (w : List ℕ) (then : Taker) (s : List ℕ) → literal w then s ≡ behind (literal w done s) then s
 literal-behind w then s =
-    spelled_is typed w s then ∙ bytes-behind (isSpelled typed w s) (length w) then s ∙ ap (λ (t : Taken). behind t then s) (sym (spelled_is typed w s done))
+    spelled-is typed w s then ∙ bytes-behind (isSpelled typed w s) (length w) then s ∙ ap (λ (t : Taken). behind t then s) (sym (spelled-is typed w s done))

@@ -22,24 +22,24 @@ use Rattle.reserved.specs.NewlineAfter.{newlineAfterPhrases}
 use Rattle.reserved.specs.Newline.{newlinePhrases}
 use Rattle.reserved.specs.Join.{joinPhrases}
 use Rattle.reserved.specs.NoIndent.{noIndentPhrases}
-use Rattle.reserved.specs.Plain.{plainTwoPhrases, plainOnePhrases, plainA, plainB, plainC, plainD, plainE, plain_f, plainG, plainH, plainI, plainK, plainL, plainM, plainN, plainO, plainP, plainQ, plainR, plainS, plainT, plainU, plainV, plainW, plainY}
-use Rattle.reserved.specs.Inner.Entries.{FoundPhrase, Entry, Nothing, length_of, group_of, grouped, entries, ifExists, ending, entryEnd, chosen, findEntry, tokenFor}
+use Rattle.reserved.specs.Plain.{plainTwoPhrases, plainOnePhrases, plainA, plainB, plainC, plainD, plainE, plainF, plainG, plainH, plainI, plainK, plainL, plainM, plainN, plainO, plainP, plainQ, plainR, plainS, plainT, plainU, plainV, plainW, plainY}
+use Rattle.reserved.specs.Inner.Entries.{FoundPhrase, Entry, Nothing, lengthOf, groupOf, grouped, entries, ifExists, ending, entryEnd, chosen, findEntry, tokenFor}
 use Rattle.reserved.specs.Reserved.{topLevelToken, newlineToken, getTopLevelReservedToken, getNewlineAfterReservedToken, getNewlineReservedToken, getJoinToken, getTopLevelReservedTokenNoIndent, getPlainReservedToken, mayBeReserved, getReservedWordToken}
-use Rattle.reserved.proofs.PhraseWalk.{walk_inside, ending-inside}
+use Rattle.reserved.proofs.PhraseWalk.{walk-inside, ending-inside}
 use Rattle.reserved.proofs.FirstEntry.{found-long}
 
 -- ---- one list after another
 
-abbrev or_else : FoundPhrase → FoundPhrase → FoundPhrase
-or_else (Entry group n) other = Entry group n
-or_else Nothing other = other
+abbrev orElse : FoundPhrase → FoundPhrase → FoundPhrase
+orElse (Entry group n) other = Entry group n
+orElse Nothing other = other
 
-find-append : (xs ys : List (ℕ × List ℕ)) (s : List ℕ) → findEntry (xs ++ ys) s ≡ or_else (findEntry xs s) (findEntry ys s)
+find-append : (xs ys : List (ℕ × List ℕ)) (s : List ℕ) → findEntry (xs ++ ys) s ≡ orElse (findEntry xs s) (findEntry ys s)
 unfolding findEntry
 find-append [] ys s = refl
 find-append (x ∷ xs) ys s = rw (find-append xs ys s) (go (entryEnd x.0 x.1 s))
   where
-    go : (t : Taken) → chosen x.0 t (or_else (findEntry xs s) (findEntry ys s)) ≡ or_else (chosen x.0 t (findEntry xs s)) (findEntry ys s)
+    go : (t : Taken) → chosen x.0 t (orElse (findEntry xs s) (findEntry ys s)) ≡ orElse (chosen x.0 t (findEntry xs s)) (findEntry ys s)
     go (Bytes n) = refl
     go Fails = refl
 
@@ -50,9 +50,9 @@ hasIfExists [] = false
 hasIfExists (phrase words ∷ phrases) = hasIfExists phrases
 hasIfExists (phraseIfExists words ∷ phrases) = true
 
-plain_end : (group : ℕ) (words s : List ℕ) → eqb group 68 ≡ false → entryEnd group words s ≡ phraseEnd (phrase words) s
+plain-end : (group : ℕ) (words s : List ℕ) → eqb group 68 ≡ false → entryEnd group words s ≡ phraseEnd (phrase words) s
 unfolding entryEnd phraseEnd
-plain_end group words s d = rw d
+plain-end group words s d = rw d
 
 exists-end : (words s : List ℕ) → entryEnd 68 words s ≡ phraseEnd (phraseIfExists words) s
 unfolding entryEnd phraseEnd ifExists
@@ -67,23 +67,23 @@ record Makes (between : Bool) (last : TopLevel) (s : List ℕ) (group : ℕ) (ma
   takes : (n : ℕ) (other : Recognised) → alt (make (Bytes n)) other ≡ make (Bytes n)
 
 group-find : (between : Bool) (last : TopLevel) (s : List ℕ) (group : ℕ) (make : Taken → Recognised) (phrases : List Phrase) (other : FoundPhrase) → Makes between last s group make phrases
-    → tokenFor between last s (or_else (findEntry (grouped group phrases) s) other) ≡ alt (make (firstPhrase phrases s)) (tokenFor between last s other)
+    → tokenFor between last s (orElse (findEntry (grouped group phrases) s) other) ≡ alt (make (firstPhrase phrases s)) (tokenFor between last s other)
 unfolding findEntry grouped firstPhrase
 group-find between last s group make [] other m = rw m.fails
 group-find between last s group make (phrase words ∷ phrases) other m =
-    rw (plain_end group words s m.plain)
+    rw (plain-end group words s m.plain)
     (go (phraseEnd (phrase words) s) (group-find between last s group make phrases other (record { plain = m.plain; own = m.own; dropped = m.dropped; fails = m.fails; takes = m.takes })))
   where
-    go : (t : Taken) → tokenFor between last s (or_else (findEntry (grouped group phrases) s) other) ≡ alt (make (firstPhrase phrases s)) (tokenFor between last s other)
-        → tokenFor between last s (or_else (chosen group t (findEntry (grouped group phrases) s)) other) ≡ alt (make (or t (firstPhrase phrases s))) (tokenFor between last s other)
+    go : (t : Taken) → tokenFor between last s (orElse (findEntry (grouped group phrases) s) other) ≡ alt (make (firstPhrase phrases s)) (tokenFor between last s other)
+        → tokenFor between last s (orElse (chosen group t (findEntry (grouped group phrases) s)) other) ≡ alt (make (or t (firstPhrase phrases s))) (tokenFor between last s other)
     go (Bytes n) ih = m.own n ∙ sym (m.takes n (tokenFor between last s other))
     go Fails ih = ih
 group-find between last s group make (phraseIfExists words ∷ phrases) other m =
     rw (exists-end words s)
     (go (phraseEnd (phraseIfExists words) s) (group-find between last s group make phrases other (record { plain = m.plain; own = m.own; dropped = λ e. m.dropped refl; fails = m.fails; takes = m.takes })))
   where
-    go : (t : Taken) → tokenFor between last s (or_else (findEntry (grouped group phrases) s) other) ≡ alt (make (firstPhrase phrases s)) (tokenFor between last s other)
-        → tokenFor between last s (or_else (chosen 68 t (findEntry (grouped group phrases) s)) other) ≡ alt (make (or t (firstPhrase phrases s))) (tokenFor between last s other)
+    go : (t : Taken) → tokenFor between last s (orElse (findEntry (grouped group phrases) s) other) ≡ alt (make (firstPhrase phrases s)) (tokenFor between last s other)
+        → tokenFor between last s (orElse (chosen 68 t (findEntry (grouped group phrases) s)) other) ≡ alt (make (or t (firstPhrase phrases s))) (tokenFor between last s other)
     go (Bytes n) ih = m.dropped refl n ∙ sym (m.takes n (tokenFor between last s other))
     go Fails ih = ih
 
@@ -112,12 +112,12 @@ module _ (between : Bool) (last : TopLevel) (s : List ℕ) where
   unfolding noIndentPhrases
   no-indent-made = record { plain = refl; own = λ n. refl; dropped = λ e n. absurd (false≢true e); fails = refl; takes = λ n other. refl }
 
-  two_made : Made 82 (tokenOf Reserved) plainTwoPhrases
+  two-made : Made 82 (tokenOf Reserved) plainTwoPhrases
   unfolding plainTwoPhrases
-  two_made = record { plain = refl; own = λ n. refl; dropped = λ e n. absurd (false≢true e); fails = refl; takes = λ n other. refl }
+  two-made = record { plain = refl; own = λ n. refl; dropped = λ e n. absurd (false≢true e); fails = refl; takes = λ n other. refl }
 
   one-made : Made 82 (tokenOf Reserved) plainOnePhrases
-  unfolding plainOnePhrases plainA plainB plainC plainD plainE plain_f plainG plainH plainI plainK plainL plainM plainN plainO plainP plainQ plainR plainS plainT plainU plainV plainW plainY
+  unfolding plainOnePhrases plainA plainB plainC plainD plainE plainF plainG plainH plainI plainK plainL plainM plainN plainO plainP plainQ plainR plainS plainT plainU plainV plainW plainY
   one-made = record { plain = refl; own = λ n. refl; dropped = λ e n. absurd (false≢true e); fails = refl; takes = λ n other. refl }
 
   abbrev token : List (ℕ × List ℕ) → Recognised
@@ -128,9 +128,9 @@ module _ (between : Bool) (last : TopLevel) (s : List ℕ) where
   next group make phrases rest m =
       ap (tokenFor between last s) (find-append (grouped group phrases) rest s) ∙ group-find between last s group make phrases (findEntry rest s) m
 
-  or_nothing : (f : FoundPhrase) → or_else f Nothing ≡ f
-  or_nothing (Entry group n) = refl
-  or_nothing Nothing = refl
+  or-nothing : (f : FoundPhrase) → orElse f Nothing ≡ f
+  or-nothing (Entry group n) = refl
+  or-nothing Nothing = refl
 
   alt-nothing : (r : Recognised) → alt r R.Nothing ≡ r
   alt-nothing (R.Token p) = refl
@@ -138,7 +138,7 @@ module _ (between : Bool) (last : TopLevel) (s : List ℕ) where
 
   last-group : token (grouped 82 plainOnePhrases) ≡ tokenOf Reserved (firstPhrase plainOnePhrases s)
   last-group =
-      ap (tokenFor between last s) (sym (or_nothing (findEntry (grouped 82 plainOnePhrases) s)))
+      ap (tokenFor between last s) (sym (or-nothing (findEntry (grouped 82 plainOnePhrases) s)))
       ∙ group-find between last s 82 (tokenOf Reserved) plainOnePhrases Nothing one-made
       ∙ alt-nothing (tokenOf Reserved (firstPhrase plainOnePhrases s))
 
@@ -161,7 +161,7 @@ module _ (between : Bool) (last : TopLevel) (s : List ℕ) where
       ∙ ap (alt (tokenOf Join (firstPhrase joinPhrases s)))
       (next 73 (tokenOf ReservedTopLevelNoIndent) noIndentPhrases r₂ no-indent-made
       ∙ ap (alt (tokenOf ReservedTopLevelNoIndent (firstPhrase noIndentPhrases s)))
-      (next 82 (tokenOf Reserved) plainTwoPhrases (grouped 82 plainOnePhrases) two_made
+      (next 82 (tokenOf Reserved) plainTwoPhrases (grouped 82 plainOnePhrases) two-made
       ∙ ap (alt (tokenOf Reserved (firstPhrase plainTwoPhrases s))) last-group)))))
 
 -- ---- as the functions use them
@@ -182,13 +182,13 @@ module _ (s : List ℕ) (afterDot between : Bool) (last : TopLevel) where
 
 entry-inside : (group : ℕ) (words s : List ℕ) → taken (entryEnd group words s) ≤ length s
 unfolding entryEnd
-entry-inside group words s = walk_inside words (ending (eqb group 68)) (ending-inside (eqb group 68)) s
+entry-inside group words s = walk-inside words (ending (eqb group 68)) (ending-inside (eqb group 68)) s
 
 -- an entry that was found lies inside
-found_inside : (es : List (ℕ × List ℕ)) (s : List ℕ) (group n : ℕ) → findEntry es s ≡ Entry group n → n ≤ length s
+found-inside : (es : List (ℕ × List ℕ)) (s : List ℕ) (group n : ℕ) → findEntry es s ≡ Entry group n → n ≤ length s
 unfolding findEntry
-found_inside [] s group n e = absurd (let z : ◌≡◌ {A = ℕ} 0 1 = cc in let y : ⊥ = omega arith in y)
-found_inside (x ∷ es) s group n e = go (entryEnd x.0 x.1 s) refl (found_inside es s group n)
+found-inside [] s group n e = absurd (let z : ◌≡◌ {A = ℕ} 0 1 = cc in let y : ⊥ = omega arith in y)
+found-inside (x ∷ es) s group n e = go (entryEnd x.0 x.1 s) refl (found-inside es s group n)
   where
     go : (t : Taken) → entryEnd x.0 x.1 s ≡ t → (findEntry es s ≡ Entry group n → n ≤ length s) → n ≤ length s
     go (Bytes m) q rest =
@@ -199,27 +199,27 @@ found_inside (x ∷ es) s group n e = go (entryEnd x.0 x.1 s) refl (found_inside
         omega arith
     go Fails q rest = rest (rw q at e)
 
-module _ (s : List ℕ) (n : ℕ) (e : n ≡ length_of (findEntry entries s)) where
-  pub entry_length : n ≤ length s
-  entry_length = go (findEntry entries s) refl e
+module _ (s : List ℕ) (n : ℕ) (e : n ≡ lengthOf (findEntry entries s)) where
+  pub entry-length : n ≤ length s
+  entry-length = go (findEntry entries s) refl e
     where
-      go : (f : FoundPhrase) → findEntry entries s ≡ f → n ≡ length_of f → n ≤ length s
-      go (Entry group m) q k = rw k (found_inside entries s group m q)
+      go : (f : FoundPhrase) → findEntry entries s ≡ f → n ≡ lengthOf f → n ≤ length s
+      go (Entry group m) q k = rw k (found-inside entries s group m q)
       go Nothing q k = rw k zero-le
 
   module _ (between : Bool) (last : TopLevel) where
     pub entry-none : n ≡ 0 → R.Nothing ≡ tokenFor between last s (findEntry entries s)
     entry-none z = go (findEntry entries s) refl e
       where
-        go : (f : FoundPhrase) → findEntry entries s ≡ f → n ≡ length_of f → R.Nothing ≡ tokenFor between last s f
+        go : (f : FoundPhrase) → findEntry entries s ≡ f → n ≡ lengthOf f → R.Nothing ≡ tokenFor between last s f
         go (Entry group m) q k = absurd (let l = found-long s group m q in let y : ⊥ = omega arith in y)
         go Nothing q k = refl
 
-    pub entry-token : (group : ℕ) (r : Recognised) → group ≡ group_of 0 (findEntry entries s) → (n ≡ 0 → ⊥) → r ≡ tokenFor between last s (Entry group n)
+    pub entry-token : (group : ℕ) (r : Recognised) → group ≡ groupOf 0 (findEntry entries s) → (n ≡ 0 → ⊥) → r ≡ tokenFor between last s (Entry group n)
         → r ≡ tokenFor between last s (findEntry entries s)
     entry-token group r g z h = go (findEntry entries s) e g
       where
-        go : (f : FoundPhrase) → n ≡ length_of f → group ≡ group_of 0 f → r ≡ tokenFor between last s f
+        go : (f : FoundPhrase) → n ≡ lengthOf f → group ≡ groupOf 0 f → r ≡ tokenFor between last s f
         go (Entry letter m) k j = rw (← k, ← j) h
         go Nothing k j = absurd (z k)
 

@@ -21,8 +21,8 @@ use Rattle.reserved.specs.NewlineAfter.{newlineAfterPhrases}
 use Rattle.reserved.specs.Newline.{newlinePhrases}
 use Rattle.reserved.specs.Join.{joinPhrases}
 use Rattle.reserved.specs.NoIndent.{noIndentPhrases}
-use Rattle.reserved.specs.Plain.{plainTwoPhrases, plainOnePhrases, plainA, plainB, plainC, plainD, plainE, plain_f, plainG, plainH, plainI, plainK, plainL, plainM, plainN, plainO, plainP, plainQ, plainR, plainS, plainT, plainU, plainV, plainW, plainY}
-use Rattle.reserved.specs.Inner.Entries.{Entry, Nothing, length_of, group_of, grouped, entries, ending, entryEnd, chosen, findEntry, encoded, entriesOf, tableFind}
+use Rattle.reserved.specs.Plain.{plainTwoPhrases, plainOnePhrases, plainA, plainB, plainC, plainD, plainE, plainF, plainG, plainH, plainI, plainK, plainL, plainM, plainN, plainO, plainP, plainQ, plainR, plainS, plainT, plainU, plainV, plainW, plainY}
+use Rattle.reserved.specs.Inner.Entries.{Entry, Nothing, lengthOf, groupOf, grouped, entries, ending, entryEnd, chosen, findEntry, encoded, entriesOf, tableFind}
 use Rattle.reserved.proofs.PhraseSizes.{walk-some}
 
 -- ---- the loop of `find_in`
@@ -54,11 +54,11 @@ module _ (table s : List ℕ) (at n : ℕ) (f : FindAt table s at) (h : at + 1 <
   find-cut : length table - (at + 2) < n → Nothing ≡ tableFind 0 table s
   find-cut l = sym (shown ∙ rw (length-drop (at + 2) table, lt-leb n (length table - (at + 2)) l))
 
-  pub cut-length : length table - (at + 2) < n → 0 ≡ length_of (tableFind 0 table s)
-  cut-length l = ap length_of (find-cut l)
+  pub cut-length : length table - (at + 2) < n → 0 ≡ lengthOf (tableFind 0 table s)
+  cut-length l = ap lengthOf (find-cut l)
 
-  pub cut-group : (before after : ℕ) → after ≡ before → length table - (at + 2) < n → after ≡ group_of before (tableFind 0 table s)
-  cut-group before after q l = q ∙ ap (group_of before) (find-cut l)
+  pub cut-group : (before after : ℕ) → after ≡ before → length table - (at + 2) < n → after ≡ groupOf before (tableFind 0 table s)
+  cut-group before after q l = q ∙ ap (groupOf before) (find-cut l)
 
   module _ (l : n ≤ length table - (at + 2)) (t : Taken) (c : t ≡ entryEnd (get_or table at 0) (take (at + 2 + n - (at + 2)) (drop (at + 2) table)) s) where
     found : tableFind 0 table s ≡ chosen (get_or table at 0) t (tableFind n (drop (at + 2) table) s)
@@ -67,11 +67,11 @@ module _ (table s : List ℕ) (at n : ℕ) (f : FindAt table s at) (h : at + 1 <
         let c' : t ≡ entryEnd (get_or table at 0) (take n (drop (at + 2) table)) s = rw z at c in
         shown ∙ rw (length-drop (at + 2) table, le-leb n (length table - (at + 2)) l, ← c')
 
-    pub find-here : (m : ℕ) → t ≡ Bytes m → m ≡ length_of (tableFind 0 table s)
-    find-here m q = sym (ap length_of {y = Entry (get_or table at 0) m} (found ∙ rw q))
+    pub find-here : (m : ℕ) → t ≡ Bytes m → m ≡ lengthOf (tableFind 0 table s)
+    find-here m q = sym (ap lengthOf {y = Entry (get_or table at 0) m} (found ∙ rw q))
 
-    find-group : (before m : ℕ) → t ≡ Bytes m → get_or table at 0 ≡ group_of before (tableFind 0 table s)
-    find-group before m q = sym (ap (group_of before) {y = Entry (get_or table at 0) m} (found ∙ rw q))
+    find-group : (before m : ℕ) → t ≡ Bytes m → get_or table at 0 ≡ groupOf before (tableFind 0 table s)
+    find-group before m q = sym (ap (groupOf before) {y = Entry (get_or table at 0) m} (found ∙ rw q))
 
     pub find-next : t ≡ Fails → FindAt table s (at + 2 + n)
     find-next q =
@@ -91,15 +91,15 @@ find-end table s at f h = go (drop at table) refl
         absurd (let l : length (drop at table) ≡ suc (suc (length t)) = rw q in let i = f.inside in let z : ⊥ = omega (arith, length-drop at table) in z)
 
 module _ (table s : List ℕ) (at : ℕ) (f : FindAt table s at) (h : length table ≤ at + 1) where
-  pub end-length : 0 ≡ length_of (tableFind 0 table s)
-  end-length = ap length_of (find-end table s at f h)
+  pub end-length : 0 ≡ lengthOf (tableFind 0 table s)
+  end-length = ap lengthOf (find-end table s at f h)
 
-  pub end-group : (before after : ℕ) → after ≡ before → after ≡ group_of before (tableFind 0 table s)
-  end-group before after q = q ∙ ap (group_of before) (find-end table s at f h)
+  pub end-group : (before after : ℕ) → after ≡ before → after ≡ groupOf before (tableFind 0 table s)
+  end-group before after q = q ∙ ap (groupOf before) (find-end table s at f h)
 
 -- `find-group` with its premises in the order in which a search finds them
 pub group-here : (t : Taken) (m : ℕ) → t ≡ Bytes m → (table s : List ℕ) (at n before : ℕ) → t ≡ entryEnd (get_or table at 0) (take (at + 2 + n - (at + 2)) (drop (at + 2) table)) s
-    → n ≡ get_or table (at + 1) 0 → FindAt table s at → at + 1 < length table → n ≤ length table - (at + 2) → get_or table at 0 ≡ group_of before (tableFind 0 table s)
+    → n ≡ get_or table (at + 1) 0 → FindAt table s at → at + 1 < length table → n ≤ length table - (at + 2) → get_or table at 0 ≡ groupOf before (tableFind 0 table s)
 group-here t m q table s at n before c e f h l = find-group table s at n f h e l t c before m q
 
 -- ---- a table of encoded entries
@@ -163,10 +163,10 @@ abbrev pub allAmong : List ℕ → List (ℕ × List ℕ) → Bool
 allAmong letters [] = true
 allAmong letters (e ∷ es) = contains letters (get_or e.1 0 0) && allAmong letters es
 
-pub none_of : (x w : ℕ) (letters : List ℕ) → NoneOf x letters → contains letters w ≡ true → x ≡ w → ⊥
+pub none-of : (x w : ℕ) (letters : List ℕ) → NoneOf x letters → contains letters w ≡ true → x ≡ w → ⊥
 unfolding contains
-none_of x w [] n c q = false≢true c
-none_of x w (letter ∷ letters) n c q = go (eqb w letter) refl (none_of x w letters n.0)
+none-of x w [] n c q = false≢true c
+none-of x w (letter ∷ letters) n c q = go (eqb w letter) refl (none-of x w letters n.0)
   where
     go : (t : Bool) → eqb w letter ≡ t → (contains letters w ≡ true → x ≡ w → ⊥) → ⊥
     go true e rest = n.1 (q ∙ eqb-true w letter e)
@@ -178,58 +178,58 @@ none-find letters [] s l k n = refl
 none-find letters (e ∷ es) s l k n =
     let f = lettered-first e es l in
     let k₂ = (and-eq-true_iff (contains letters (get_or e.1 0 0)) (allAmong letters es)).0 k in
-    rw (other-fails e.0 e.1 s f.some f.letter (none_of (capital (get_or s 0 0)) (get_or e.1 0 0) letters n k₂.0))
+    rw (other-fails e.0 e.1 s f.some f.letter (none-of (capital (get_or s 0 0)) (get_or e.1 0 0) letters n k₂.0))
     (none-find letters es s f.rest k₂.1 n)
 
 -- ---- as `find_phrase` uses them
 
 -- one test that the checker computes over all phrases
 all-lettered : lettered entries ≡ true
-unfolding entries grouped topLevelPhrases creatable alterableOrDroppable each eachDropped newlineAfterPhrases newlinePhrases joinPhrases noIndentPhrases plainTwoPhrases plainOnePhrases plainA plainB plainC plainD plainE plain_f plainG plainH plainI plainK plainL plainM plainN plainO plainP plainQ plainR plainS plainT plainU plainV plainW plainY
+unfolding entries grouped topLevelPhrases creatable alterableOrDroppable each eachDropped newlineAfterPhrases newlinePhrases joinPhrases noIndentPhrases plainTwoPhrases plainOnePhrases plainA plainB plainC plainD plainE plainF plainG plainH plainI plainK plainL plainM plainN plainO plainP plainQ plainR plainS plainT plainU plainV plainW plainY
 all-lettered = refl
 
 module _ (s : List ℕ) (x : ℕ) (c : x ≡ capital (get_or s 0 0)) where
   pub letter-is : (letter : ℕ) → x ≡ letter → findEntry (entriesOf letter entries) s ≡ findEntry entries s
   letter-is letter e = letter-find letter entries s all-lettered (sym c ∙ e)
 
-  pub none_is : (letters : List ℕ) → allAmong letters entries ≡ true → NoneOf x letters → Nothing ≡ findEntry entries s
-  none_is letters k n = none-find letters entries s all-lettered k (rw (← c) n)
+  pub none-is : (letters : List ℕ) → allAmong letters entries ≡ true → NoneOf x letters → Nothing ≡ findEntry entries s
+  none-is letters k n = none-find letters entries s all-lettered k (rw (← c) n)
 
 none-starts : (es : List (ℕ × List ℕ)) → lettered es ≡ true → Nothing ≡ findEntry es []
 unfolding findEntry entryEnd walk one
 none-starts [] l = refl
 none-starts (e ∷ es) l =
     let f = lettered-first e es l in
-    rw (no_text e.1 f.some f.letter) (none-starts es f.rest)
+    rw (no-text e.1 f.some f.letter) (none-starts es f.rest)
   where
-    no_text : (words : List ℕ) → 1 ≤ length words → (get_or words 0 0 ≡ 32 → ⊥) → entryEnd e.0 words [] ≡ Fails
-    no_text [] o n = absurd (not-suc-le-zero o)
-    no_text (p ∷ words) o n = rw (ne_eqb p 32 n)
+    no-text : (words : List ℕ) → 1 ≤ length words → (get_or words 0 0 ≡ 32 → ⊥) → entryEnd e.0 words [] ≡ Fails
+    no-text [] o n = absurd (not-suc-le-zero o)
+    no-text (p ∷ words) o n = rw (ne_eqb p 32 n)
 
 empty-is : (s : List ℕ) → length s ≡ 0 → Nothing ≡ findEntry entries s
 empty-is [] h = none-starts entries all-lettered
 empty-is (b ∷ s) h = absurd (let z : ⊥ = omega arith in z)
 
 module _ (s : List ℕ) (h : length s ≡ 0) where
-  pub empty-length : 0 ≡ length_of (findEntry entries s)
-  empty-length = ap length_of (empty-is s h)
+  pub empty-length : 0 ≡ lengthOf (findEntry entries s)
+  empty-length = ap lengthOf (empty-is s h)
 
-  pub empty_group : (before : ℕ) → before ≡ group_of before (findEntry entries s)
-  empty_group before = ap (group_of before) (empty-is s h)
+  pub empty-group : (before : ℕ) → before ≡ groupOf before (findEntry entries s)
+  empty-group before = ap (groupOf before) (empty-is s h)
 
 -- ---- an entry that is found takes some bytes
 
-some_bytes : (group : ℕ) (words s : List ℕ) → 1 ≤ length words → (get_or words 0 0 ≡ 32 → ⊥) → Least 1 (entryEnd group words s)
+some-bytes : (group : ℕ) (words s : List ℕ) → 1 ≤ length words → (get_or words 0 0 ≡ 32 → ⊥) → Least 1 (entryEnd group words s)
 unfolding entryEnd
-some_bytes group [] s o n = absurd (not-suc-le-zero o)
-some_bytes group (p ∷ words) s o n = walk-some (p ∷ words) (ending (eqb group 68)) (rw (ne_eqb p 32 n)) s
+some-bytes group [] s o n = absurd (not-suc-le-zero o)
+some-bytes group (p ∷ words) s o n = walk-some (p ∷ words) (ending (eqb group 68)) (rw (ne_eqb p 32 n)) s
 
-found_some : (es : List (ℕ × List ℕ)) (s : List ℕ) → lettered es ≡ true → (group m : ℕ) → findEntry es s ≡ Entry group m → 0 < m
+found-some : (es : List (ℕ × List ℕ)) (s : List ℕ) → lettered es ≡ true → (group m : ℕ) → findEntry es s ≡ Entry group m → 0 < m
 unfolding findEntry
-found_some [] s l group m q = absurd (let z : ◌≡◌ {A = ℕ} 0 1 = cc in let y : ⊥ = omega arith in y)
-found_some (e ∷ es) s l group m q =
+found-some [] s l group m q = absurd (let z : ◌≡◌ {A = ℕ} 0 1 = cc in let y : ⊥ = omega arith in y)
+found-some (e ∷ es) s l group m q =
     let f = lettered-first e es l in
-    go (entryEnd e.0 e.1 s) refl (some_bytes e.0 e.1 s f.some f.letter) (found_some es s f.rest group m)
+    go (entryEnd e.0 e.1 s) refl (some-bytes e.0 e.1 s f.some f.letter) (found-some es s f.rest group m)
   where
     go : (t : Taken) → entryEnd e.0 e.1 s ≡ t → Least 1 t → (findEntry es s ≡ Entry group m → 0 < m) → 0 < m
     go (Bytes k) h some rest =
@@ -239,4 +239,4 @@ found_some (e ∷ es) s l group m q =
     go Fails h some rest = rest (rw h at q)
 
 pub found-long : (s : List ℕ) (group m : ℕ) → findEntry entries s ≡ Entry group m → 0 < m
-found-long s group m q = found_some entries s all-lettered group m q
+found-long s group m q = found-some entries s all-lettered group m q

@@ -12,7 +12,7 @@ use lib.Seq.{get_or-set_same, get_or-set_other}
 use borrow.Author.Tests.{eqb-true, eq-eqb}
 use Rattle.characters.specs.Runs.{inClass, run}
 use Rattle.characters.specs.declared.Class.TheVariants.{Whitespace}
-use Rattle.characters.proofs.Rests.{part_end}
+use Rattle.characters.proofs.Rests.{part-end}
 use Rattle.reserved.specs.Inner.Gaps.{Measured}
 use Rattle.reserved.proofs.PhraseWalk.{WalkAt}
 
@@ -32,12 +32,12 @@ nothing-measured s end e = record { six = refl; there = there }
 pub six-gaps : (gaps s : List ℕ) → Measured gaps s → 6 ≡ length gaps
 six-gaps gaps s m = sym m.six
 
-pub same_count : (gaps gaps' s : List ℕ) → Measured gaps s → Measured gaps' s → length gaps' ≡ length gaps
-same_count gaps gaps' s m m' = m'.six ∙ sym m.six
+pub same-count : (gaps gaps' s : List ℕ) → Measured gaps s → Measured gaps' s → length gaps' ≡ length gaps
+same-count gaps gaps' s m m' = m'.six ∙ sym m.six
 
 module _ (gaps s : List ℕ) (m : Measured gaps s) (slot : ℕ) (h : slot < 3) where
-  pub place_inside : slot < length gaps
-  place_inside = rw m.six (omega (arith, h))
+  pub place-inside : slot < length gaps
+  place-inside = rw m.six (omega (arith, h))
 
   pub length-inside : slot + 3 < length gaps
   length-inside = rw m.six (omega (arith, h))
@@ -48,7 +48,7 @@ module _ (gaps s : List ℕ) (m : Measured gaps s) (slot : ℕ) (h : slot < 3) w
 
     module _ (n : ℕ) (e : n ≡ run (inClass Whitespace) 0 (take (length s - at) (drop at s))) where
       pub gap-walked : n ≡ run (inClass Whitespace) 0 (drop at s)
-      gap-walked = e ∙ ap (run (inClass Whitespace) 0) (part_end s at)
+      gap-walked = e ∙ ap (run (inClass Whitespace) 0) (part-end s at)
 
       pub length-inside-too : slot + 3 < length (set gaps slot at)
       length-inside-too = rw (length-set gaps slot at) length-inside
@@ -56,22 +56,22 @@ module _ (gaps s : List ℕ) (m : Measured gaps s) (slot : ℕ) (h : slot < 3) w
       abbrev kept : List ℕ
       kept = set (set gaps slot at) (slot + 3) n
 
-      place_kept : (j : ℕ) → j < 3 → get_or kept j 0 ≡ get_or (set gaps slot at) j 0
-      place_kept j l = get_or-set_other (set gaps slot at) (slot + 3) j n 0 (λ q. let z : ⊥ = omega (arith, l, q) in z)
+      place-kept : (j : ℕ) → j < 3 → get_or kept j 0 ≡ get_or (set gaps slot at) j 0
+      place-kept j l = get_or-set_other (set gaps slot at) (slot + 3) j n 0 (λ q. let z : ⊥ = omega (arith, l, q) in z)
 
-      kept_there : (j : ℕ) → j < 3 → get_or kept (j + 3) 0 ≡ run (inClass Whitespace) 0 (drop (get_or kept j 0) s)
-      kept_there j l = go (eqb j slot) refl
+      kept-there : (j : ℕ) → j < 3 → get_or kept (j + 3) 0 ≡ run (inClass Whitespace) 0 (drop (get_or kept j 0) s)
+      kept-there j l = go (eqb j slot) refl
         where
           go : (t : Bool) → eqb j slot ≡ t → get_or kept (j + 3) 0 ≡ run (inClass Whitespace) 0 (drop (get_or kept j 0) s)
           go true q =
               let r : j ≡ slot = eqb-true j slot q in
-              rw (place_kept j l, r, get_or-set_same gaps slot at 0 place_inside, get_or-set_same (set gaps slot at) (slot + 3) n 0 length-inside-too) gap-walked
+              rw (place-kept j l, r, get_or-set_same gaps slot at 0 place-inside, get_or-set_same (set gaps slot at) (slot + 3) n 0 length-inside-too) gap-walked
           go false q =
               let ne : j ≡ slot → ⊥ = λ r. false≢true (sym q ∙ eq-eqb j slot r) in
-              rw (place_kept j l, get_or-set_other gaps slot j at 0 ne, get_or-set_other (set gaps slot at) (slot + 3) (j + 3) n 0 (λ r. ne (omega (arith, r))), get_or-set_other gaps slot (j + 3) at 0 (λ r. let z : ⊥ = omega (arith, r, h) in z)) (m.there j l)
+              rw (place-kept j l, get_or-set_other gaps slot j at 0 ne, get_or-set_other (set gaps slot at) (slot + 3) (j + 3) n 0 (λ r. ne (omega (arith, r))), get_or-set_other gaps slot (j + 3) at 0 (λ r. let z : ⊥ = omega (arith, r, h) in z)) (m.there j l)
 
       pub gap-measured : (gaps' : List ℕ) → gaps' ≡ kept → Measured gaps' s
-      gap-measured gaps' q = rw q (record { six = length-set (set gaps slot at) (slot + 3) n ∙ length-set gaps slot at ∙ m.six; there = kept_there })
+      gap-measured gaps' q = rw q (record { six = length-set (set gaps slot at) (slot + 3) n ∙ length-set gaps slot at ∙ m.six; there = kept-there })
 
 -- the loop of `words_end`
 pub record MeasuredWalk (words s gaps : List ℕ) (at i slot : ℕ) : Type 0 where

@@ -11,8 +11,8 @@ use Rattle.characters.specs.Ranges.{within}
 use Rattle.characters.specs.Ascii.{isLetter, isAsciiWord}
 use Rattle.characters.specs.Character.{codePoint}
 use Rattle.characters.specs.Classes.{isWhitespace, isWordCharacter}
-use Rattle.characters.proofs.AsciiRule.{word_byte}
-use Rattle.characters.proofs.Below.{all_below, below}
+use Rattle.characters.proofs.AsciiRule.{word-byte}
+use Rattle.characters.proofs.Below.{allBelow, below}
 use Rattle.characters.proofs.ClassesApart.{white-no-word}
 use Rattle.characters.proofs.RunLaws.{ascii-first}
 use Rattle.characters.proofs.Within.{above-not}
@@ -20,37 +20,37 @@ use Rattle.recognisers.specs.declared.Taken.TheVariants.{Fails}
 use Rattle.recognisers.specs.Inner.WordLength.{wordLength}
 use Rattle.recognisers.specs.Taking.{Taker, more, one, capital, blanks, endOfWord, count, contains}
 use Rattle.reserved.specs.Phrases.{walk, after, optional}
-use Rattle.reserved.specs.Inner.Entries.{Entry, Nothing, length_of, group_of, entries, ifExists, ending, entryEnd, chosen, findEntry, encoded, entriesOf, entriesLong, tableFind}
-use Rattle.reserved.proofs.FirstEntry.{encoded-find, NoneOf, none_of}
+use Rattle.reserved.specs.Inner.Entries.{Entry, Nothing, lengthOf, groupOf, entries, ifExists, ending, entryEnd, chosen, findEntry, encoded, entriesOf, entriesLong, tableFind}
+use Rattle.reserved.proofs.FirstEntry.{encoded-find, NoneOf, none-of}
 
 -- ---- an ASCII word character at the start of the text
 
 module _ (b : ℕ) (w : isAsciiWord b ≡ true) where
   word-told : ltb b 128 ≡ true × isWordCharacter b ≡ true
-  word-told = (and-eq-true_iff (ltb b 128) (isWordCharacter b)).0 (sym (word_byte b) ∙ w)
+  word-told = (and-eq-true_iff (ltb b 128) (isWordCharacter b)).0 (sym (word-byte b) ∙ w)
 
-  start_is : (s : List ℕ) → codePoint (b ∷ s) ≡ b
-  start_is s = ascii-first b s (ltb-true b 128 word-told.0)
+  start-is : (s : List ℕ) → codePoint (b ∷ s) ≡ b
+  start-is s = ascii-first b s (ltb-true b 128 word-told.0)
 
-  not_white : isWhitespace b ≡ false
-  not_white = go (isWhitespace b) refl
+  not-white : isWhitespace b ≡ false
+  not-white = go (isWhitespace b) refl
     where
       go : (t : Bool) → isWhitespace b ≡ t → t ≡ false
       go true e = absurd (false≢true (sym (white-no-word b e) ∙ word-told.1))
       go false e = refl
 
-  no_end : (s : List ℕ) → endOfWord (b ∷ s) ≡ Fails
+  no-end : (s : List ℕ) → endOfWord (b ∷ s) ≡ Fails
   unfolding endOfWord
-  no_end s = rw (start_is s, word-told.1)
+  no-end s = rw (start-is s, word-told.1)
 
   no-blanks : (then : Taker) (s : List ℕ) → blanks then (b ∷ s) ≡ Fails
   unfolding blanks
-  no-blanks then s = rw (start_is s, not_white)
+  no-blanks then s = rw (start-is s, not-white)
 
 no-ending : (o : Bool) (b : ℕ) (s : List ℕ) → isAsciiWord b ≡ true → ending o (b ∷ s) ≡ Fails
 unfolding ifExists optional walk
-no-ending true b s w = rw (no-blanks b w _ s) (no_end b w s)
-no-ending false b s w = no_end b w s
+no-ending true b s w = rw (no-blanks b w _ s) (no-end b w s)
+no-ending false b s w = no-end b w s
 
 -- ---- a letter and its capital are word characters both
 
@@ -61,9 +61,9 @@ as-it-is b l = rw (above-not 0x61 0x7A b (omega arith))
 alike : ℕ → Bool
 alike k = beq (isAsciiWord (capital k)) (isAsciiWord k)
 
-all_alike : all_below alike 128 ≡ true
+all-alike : allBelow alike 128 ≡ true
 unfolding alike isAsciiWord isLetter within capital
-all_alike = refl
+all-alike = refl
 
 capital-word : (b : ℕ) → isAsciiWord (capital b) ≡ isAsciiWord b
 unfolding alike
@@ -76,7 +76,7 @@ capital-word b = go (ltb b 128) refl
     same false false e = refl
 
     go : (t : Bool) → ltb b 128 ≡ t → isAsciiWord (capital b) ≡ isAsciiWord b
-    go true q = same _ _ (below alike 128 all_alike b (ltb-true b 128 q))
+    go true q = same _ _ (below alike 128 all-alike b (ltb-true b 128 q))
     go false q = ap isAsciiWord (as-it-is b (ltb-false b 128 q))
 
 no-space : (p : ℕ) → isAsciiWord p ≡ true → eqb p 32 ≡ false
@@ -111,18 +111,18 @@ module _ (then : Taker) (stops : (b : ℕ) (s : List ℕ) → isAsciiWord b ≡ 
         go true = no-blanks b w (walk words then) s
         go false = both (eqb (capital b) p)
 
-    walk_here : (t u : Bool) → isAsciiWord p ≡ t → isAsciiWord b ≡ u
+    walk-here : (t u : Bool) → isAsciiWord p ≡ t → isAsciiWord b ≡ u
         → ((count isAsciiWord words ≡ count isAsciiWord s → ⊥) → walk words then s ≡ Fails)
         → (cond t (suc (count isAsciiWord words)) 0 ≡ cond u (suc (count isAsciiWord s)) 0 → ⊥) → walk (p ∷ words) then (b ∷ s) ≡ Fails
     unfolding walk one
-    walk_here true true q v ih n = walk-on v (ih (λ e. n (ap suc e)))
-    walk_here true false q v ih n = rw (no-space p q, unlike true false q v true≢false)
-    walk_here false true q v ih n = go (eqb p 32)
+    walk-here true true q v ih n = walk-on v (ih (λ e. n (ap suc e)))
+    walk-here true false q v ih n = rw (no-space p q, unlike true false q v true≢false)
+    walk-here false true q v ih n = go (eqb p 32)
       where
         go : (o : Bool) → cond o (blanks (walk words then) (b ∷ s)) (cond (eqb (capital b) p) (more 1 (walk words then s)) Fails) ≡ Fails
         go true = no-blanks b v (walk words then) s
         go false = rw (unlike false true q v false≢true)
-    walk_here false false q v ih n = absurd (n refl)
+    walk-here false false q v ih n = absurd (n refl)
 
   walk-length : (words s : List ℕ) → (count isAsciiWord words ≡ count isAsciiWord s → ⊥) → walk words then s ≡ Fails
   unfolding walk one count
@@ -137,7 +137,7 @@ module _ (then : Taker) (stops : (b : ℕ) (s : List ℕ) → isAsciiWord b ≡ 
       go : (t : Bool) → isAsciiWord p ≡ t → (cond t (suc (count isAsciiWord words)) 0 ≡ 0 → ⊥) → walk (p ∷ words) then [] ≡ Fails
       go true q l = rw (no-space p q)
       go false q l = absurd (l refl)
-  walk-length (p ∷ words) (b ∷ s) n = walk_here p words b s (isAsciiWord p) (isAsciiWord b) refl refl (walk-length words s) n
+  walk-length (p ∷ words) (b ∷ s) n = walk-here p words b s (isAsciiWord p) (isAsciiWord b) refl refl (walk-length words s) n
 
 entry-unlike : (group : ℕ) (words s : List ℕ) → (count isAsciiWord words ≡ wordLength s → ⊥) → entryEnd group words s ≡ Fails
 unfolding entryEnd wordLength
@@ -166,7 +166,7 @@ unfolding findEntry
 none-long lengths [] s k n = refl
 none-long lengths (e ∷ es) s k n =
     let both = (and-eq-true_iff (contains lengths (count isAsciiWord e.1)) (allLong lengths es)).0 k in
-    rw (entry-unlike e.0 e.1 s (λ q. none_of (wordLength s) (count isAsciiWord e.1) lengths n both.0 (sym q))) (none-long lengths es s both.1 n)
+    rw (entry-unlike e.0 e.1 s (λ q. none-of (wordLength s) (count isAsciiWord e.1) lengths n both.0 (sym q))) (none-long lengths es s both.1 n)
 
 -- ---- as the functions of tables.rt use them: es are the entries of a letter
 
@@ -181,12 +181,12 @@ module _ (letter : ℕ) (es : List (ℕ × List ℕ)) (is : entriesOf letter ent
         ∙ long-find es s
         ∙ ap (λ (l : List (ℕ × List ℕ)). findEntry l s) (sym is)
 
-    pub long-is : r ≡ length_of (tableFind 0 table s) → after ≡ group_of before (tableFind 0 table s) → table ≡ encoded (entriesLong k es)
-        → (r ≡ length_of (findEntry (entriesOf letter entries) s)) × (after ≡ group_of before (findEntry (entriesOf letter entries) s))
-    long-is l g t = (l ∙ ap length_of (found t), g ∙ ap (group_of before) (found t))
+    pub long-is : r ≡ lengthOf (tableFind 0 table s) → after ≡ groupOf before (tableFind 0 table s) → table ≡ encoded (entriesLong k es)
+        → (r ≡ lengthOf (findEntry (entriesOf letter entries) s)) × (after ≡ groupOf before (findEntry (entriesOf letter entries) s))
+    long-is l g t = (l ∙ ap lengthOf (found t), g ∙ ap (groupOf before) (found t))
 
   pub long-none : (lengths : List ℕ) (before : ℕ) → allLong lengths es ≡ true → NoneOf n lengths
-      → (0 ≡ length_of (findEntry (entriesOf letter entries) s)) × (before ≡ group_of before (findEntry (entriesOf letter entries) s))
+      → (0 ≡ lengthOf (findEntry (entriesOf letter entries) s)) × (before ≡ groupOf before (findEntry (entriesOf letter entries) s))
   long-none lengths before k none =
       let f : Nothing ≡ findEntry (entriesOf letter entries) s = none-long lengths es s k (rw (← e) none) ∙ ap (λ (l : List (ℕ × List ℕ)). findEntry l s) (sym is) in
-      (ap length_of f, ap (group_of before) f)
+      (ap lengthOf f, ap (groupOf before) f)

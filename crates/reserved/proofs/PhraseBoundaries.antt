@@ -23,10 +23,10 @@ use Rattle.reserved.specs.NewlineAfter.{newlineAfterPhrases}
 use Rattle.reserved.specs.Newline.{newlinePhrases}
 use Rattle.reserved.specs.Join.{joinPhrases}
 use Rattle.reserved.specs.NoIndent.{noIndentPhrases}
-use Rattle.reserved.specs.Plain.{plainTwoPhrases, plainOnePhrases, plainA, plainB, plainC, plainD, plainE, plain_f, plainG, plainH, plainI, plainK, plainL, plainM, plainN, plainO, plainP, plainQ, plainR, plainS, plainT, plainU, plainV, plainW, plainY}
+use Rattle.reserved.specs.Plain.{plainTwoPhrases, plainOnePhrases, plainA, plainB, plainC, plainD, plainE, plainF, plainG, plainH, plainI, plainK, plainL, plainM, plainN, plainO, plainP, plainQ, plainR, plainS, plainT, plainU, plainV, plainW, plainY}
 use Rattle.reserved.specs.Reserved.{topLevelToken, newlineToken, getTopLevelReservedToken, getNewlineAfterReservedToken, getNewlineReservedToken, getJoinToken, getTopLevelReservedTokenNoIndent, getPlainReservedToken, mayBeReserved, getReservedWordToken}
 use Rattle.recognisers.proofs.PieceBoundaries.{Leaves, Cuts, or-leaves, more-leaves, fails-leaves, one-cuts, capital-keeps, allAscii, done-cuts, end-of-word-cuts, blanks-cuts, Bounded, alt-bounded, token-bounded}
-use Rattle.reserved.proofs.PhraseWalk.{words_of}
+use Rattle.reserved.proofs.PhraseWalk.{wordsOf}
 
 walk-cuts : (words : List ℕ) → allAscii words ≡ true → (then : Taker) → Cuts then → Cuts (walk words then)
 unfolding walk
@@ -49,9 +49,9 @@ optional-cuts words a then h s w = go (walk words done s) (walk-cuts words a don
 
 abbrev allWordsAscii : List Phrase → Bool
 allWordsAscii [] = true
-allWordsAscii (p ∷ phrases) = allAscii (words_of p) && allWordsAscii phrases
+allWordsAscii (p ∷ phrases) = allAscii (wordsOf p) && allWordsAscii phrases
 
-phrase-cuts : (p : Phrase) → allAscii (words_of p) ≡ true → Cuts (phraseEnd p)
+phrase-cuts : (p : Phrase) → allAscii (wordsOf p) ≡ true → Cuts (phraseEnd p)
 unfolding phraseEnd
 phrase-cuts (phrase words) a s w = walk-cuts words a endOfWord end-of-word-cuts s w
 phrase-cuts (phraseIfExists words) a s w =
@@ -61,7 +61,7 @@ first-cuts : (phrases : List Phrase) → allWordsAscii phrases ≡ true → Cuts
 unfolding firstPhrase
 first-cuts [] a s w = fails-leaves s
 first-cuts (p ∷ phrases) a s w =
-    let b = (and-eq-true_iff (allAscii (words_of p)) (allWordsAscii phrases)).0 a in
+    let b = (and-eq-true_iff (allAscii (wordsOf p)) (allWordsAscii phrases)).0 a in
     or-leaves s (phraseEnd p s) (firstPhrase phrases s) (phrase-cuts p b.0 s w) (first-cuts phrases b.1 s w)
 
 -- one test for each group, which the checker computes over its table
@@ -90,9 +90,9 @@ two-plain : allWordsAscii plainTwoPhrases ≡ true
 unfolding plainTwoPhrases
 two-plain = refl
 
-one_plain : allWordsAscii plainOnePhrases ≡ true
-unfolding plainOnePhrases plainA plainB plainC plainD plainE plain_f plainG plainH plainI plainK plainL plainM plainN plainO plainP plainQ plainR plainS plainT plainU plainV plainW plainY
-one_plain = refl
+one-plain : allWordsAscii plainOnePhrases ≡ true
+unfolding plainOnePhrases plainA plainB plainC plainD plainE plainF plainG plainH plainI plainK plainL plainM plainN plainO plainP plainQ plainR plainS plainT plainU plainV plainW plainY
+one-plain = refl
 
 module _ (s : List ℕ) (w : wellFormed s ≡ true) where
   top-level-bounded : (last : TopLevel) (t : Taken) → Leaves s t → Bounded s (topLevelToken last s t)
@@ -113,7 +113,7 @@ module _ (s : List ℕ) (w : wellFormed s ≡ true) where
       (alt-bounded s (tokenOf K.Join (firstPhrase joinPhrases s)) _ (token-bounded s K.Join _ (first-cuts joinPhrases join-plain s w))
       (alt-bounded s (tokenOf K.ReservedTopLevelNoIndent (firstPhrase noIndentPhrases s)) _ (token-bounded s K.ReservedTopLevelNoIndent _ (first-cuts noIndentPhrases no-indent-plain s w))
       (alt-bounded s (tokenOf K.Reserved (firstPhrase plainTwoPhrases s)) _ (token-bounded s K.Reserved _ (first-cuts plainTwoPhrases two-plain s w))
-      (token-bounded s K.Reserved _ (first-cuts plainOnePhrases one_plain s w))))))))
+      (token-bounded s K.Reserved _ (first-cuts plainOnePhrases one-plain s w))))))))
     where
       go : (t : Bool) (r : Recognised) → Bounded s r → Bounded s (cond t Nothing r)
       go true r h = tt

@@ -27,9 +27,9 @@ use Rattle.reserved.specs.NewlineAfter.{newlineAfterPhrases}
 use Rattle.reserved.specs.Newline.{newlinePhrases}
 use Rattle.reserved.specs.Join.{joinPhrases}
 use Rattle.reserved.specs.NoIndent.{noIndentPhrases}
-use Rattle.reserved.specs.Plain.{plainTwoPhrases, plainA, plainB, plainC, plainD, plainE, plain_f, plainG, plainH, plainI, plainK, plainL, plainM, plainN, plainO, plainP, plainQ, plainR, plainS, plainT, plainU, plainV, plainW, plainY, plainOnePhrases}
+use Rattle.reserved.specs.Plain.{plainTwoPhrases, plainA, plainB, plainC, plainD, plainE, plainF, plainG, plainH, plainI, plainK, plainL, plainM, plainN, plainO, plainP, plainQ, plainR, plainS, plainT, plainU, plainV, plainW, plainY, plainOnePhrases}
 use Rattle.reserved.specs.Reserved.{aliasLength, topLevelToken, newlineToken, getTopLevelReservedToken, getNewlineAfterReservedToken, getNewlineReservedToken, getJoinToken, getTopLevelReservedTokenNoIndent, getPlainReservedToken, mayBeReserved, getReservedWordToken}
-use Rattle.reserved.proofs.PhraseWalk.{words_of, walk_inside, exists-inside}
+use Rattle.reserved.proofs.PhraseWalk.{wordsOf, walk-inside, exists-inside}
 
 -- a phrase begins with a byte that is no space
 abbrev pub begins : List ℕ → Bool
@@ -38,7 +38,7 @@ begins (p ∷ words) = not (eqb p (byte " "))
 
 abbrev allBegin : List Phrase → Bool
 allBegin [] = true
-allBegin (p ∷ phrases) = begins (words_of p) && allBegin phrases
+allBegin (p ∷ phrases) = begins (wordsOf p) && allBegin phrases
 
 pub walk-some : (words : List ℕ) (then : Taker) → begins words ≡ true → (s : List ℕ) → Least 1 (walk words then s)
 unfolding walk
@@ -50,9 +50,9 @@ walk-some (p ∷ words) then e s = go (eqb p 32) e
     go false q = one-some (λ b. eqb (capital b) p) (walk words then) s
 
 walk-takes : (words : List ℕ) (then : Taker) → Inside then → begins words ≡ true → (s : List ℕ) → Takes 1 s (walk words then s)
-walk-takes words then h e s = record { least = walk-some words then e s; inside = walk_inside words then h s }
+walk-takes words then h e s = record { least = walk-some words then e s; inside = walk-inside words then h s }
 
-phrase-takes : (p : Phrase) → begins (words_of p) ≡ true → (s : List ℕ) → Takes 1 s (phraseEnd p s)
+phrase-takes : (p : Phrase) → begins (wordsOf p) ≡ true → (s : List ℕ) → Takes 1 s (phraseEnd p s)
 unfolding phraseEnd ifExists
 phrase-takes (phrase words) e s = walk-takes words endOfWord end-of-word-inside e s
 phrase-takes (phraseIfExists words) e s = walk-takes words ifExists exists-inside e s
@@ -61,8 +61,8 @@ first-takes : (phrases : List Phrase) → allBegin phrases ≡ true → (s : Lis
 unfolding firstPhrase
 first-takes [] e s = fails-takes 1 s
 first-takes (p ∷ phrases) e s =
-    or-takes 1 s (phraseEnd p s) (firstPhrase phrases s) (phrase-takes p ((and-eq-true_iff (begins (words_of p)) (allBegin phrases)).0 e).0 s)
-    (first-takes phrases ((and-eq-true_iff (begins (words_of p)) (allBegin phrases)).0 e).1 s)
+    or-takes 1 s (phraseEnd p s) (firstPhrase phrases s) (phrase-takes p ((and-eq-true_iff (begins (wordsOf p)) (allBegin phrases)).0 e).0 s)
+    (first-takes phrases ((and-eq-true_iff (begins (wordsOf p)) (allBegin phrases)).0 e).1 s)
 
 -- ---- the alias
 
@@ -113,7 +113,7 @@ unfolding plainTwoPhrases
 two-begins = refl
 
 one-begins : allBegin plainOnePhrases ≡ true
-unfolding plainOnePhrases plainA plainB plainC plainD plainE plain_f plainG plainH plainI plainK plainL plainM plainN plainO plainP plainQ plainR plainS plainT plainU plainV plainW plainY
+unfolding plainOnePhrases plainA plainB plainC plainD plainE plainF plainG plainH plainI plainK plainL plainM plainN plainO plainP plainQ plainR plainS plainT plainU plainV plainW plainY
 one-begins = refl
 
 module _ (s : List ℕ) (a b c d e f g : Recognised) where

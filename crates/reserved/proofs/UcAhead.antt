@@ -10,13 +10,13 @@ use lib.Dec.{eqb}
 use borrow.Author.Tests.{eqb-true, eqb-false, ne_eqb}
 use Rattle.characters.specs.Ranges.{within}
 use Rattle.characters.specs.Classes.{isWhitespace, isWordCharacter}
-use Rattle.characters.specs.Character.{isContinuation, continuations, continued, firstBits, with_bits, codePoint}
+use Rattle.characters.specs.Character.{isContinuation, continuations, continued, firstBits, withBits, codePoint}
 use Rattle.characters.specs.Runs.{run}
 use Rattle.recognisers.specs.declared.Taken.{Taken}
 use Rattle.recognisers.specs.declared.Taken.TheVariants.{Bytes, Fails}
 use Rattle.recognisers.specs.Taking.{Taker, more, done, one, typed, spelled, literal, capital, blanks, endOfWord}
 use Rattle.reserved.specs.Phrases.{walk}
-use Rattle.reserved.specs.UcWords.{notWhitespace, trimStart, is_empty, splitWhitespace, spaced, toAsciiUppercase}
+use Rattle.reserved.specs.UcWords.{notWhitespace, trimStart, isEmpty, splitWhitespace, spaced, toAsciiUppercase}
 use Rattle.characters.proofs.ClassesApart.{white-no-word, end-not-white, end-no-word}
 use Rattle.reserved.proofs.UcBytes.{isVisible, visible-alone, visible-first, capital-visible, space-first, other-no-space, letter-word, capital-other, continuation-stays, continuation-capital}
 
@@ -40,9 +40,9 @@ pub space-shape : (n : ℕ) (words : List ℕ) → shaped (suc n) (32 ∷ words)
 space-shape n words h = (and-eq-true_iff (begins words) (shaped n words)).0 h
 
 -- there is no gap where no word may follow
-pub no_gap : {P : Type 0} (words : List ℕ) → shaped 0 (32 ∷ words) ≡ true → P
+pub no-gap : {P : Type 0} (words : List ℕ) → shaped 0 (32 ∷ words) ≡ true → P
 unfolding within
-no_gap words h = absurd (false≢true h)
+no-gap words h = absurd (false≢true h)
 
 -- ---- a byte of a phrase in the text
 
@@ -116,9 +116,9 @@ unfolding run
 ahead-white n b s w = rw w
 
 -- behind a word there is a space or the end
-spaced-one : (n : ℕ) (s : List ℕ) → toAsciiUppercase (spaced (splitWhitespace (suc n) s)) ≡ cond (is_empty (trimStart s)) [] (32 ∷ ahead 0 n (trimStart s))
+spaced-one : (n : ℕ) (s : List ℕ) → toAsciiUppercase (spaced (splitWhitespace (suc n) s)) ≡ cond (isEmpty (trimStart s)) [] (32 ∷ ahead 0 n (trimStart s))
 unfolding splitWhitespace capital within
-spaced-one n s = go (is_empty (trimStart s))
+spaced-one n s = go (isEmpty (trimStart s))
   where
     go : (t : Bool) → toAsciiUppercase (spaced (cond t [] (take (run notWhitespace 0 (trimStart s)) (trimStart s) ∷ splitWhitespace n (drop (run notWhitespace 0 (trimStart s)) (trimStart s))))) ≡ cond t [] (32 ∷ ahead 0 n (trimStart s))
     go true = refl
@@ -128,7 +128,7 @@ module _ (Q : List ℕ → Type 0) (none : Q []) (some : (u : List ℕ) → Q (3
   spaced-either : (n : ℕ) (s : List ℕ) → Q (toAsciiUppercase (spaced (splitWhitespace n s)))
   unfolding splitWhitespace
   spaced-either zero s = none
-  spaced-either (suc n) s = rw (spaced-one n s) (go (is_empty (trimStart s)))
+  spaced-either (suc n) s = rw (spaced-one n s) (go (isEmpty (trimStart s)))
     where
       go : (t : Bool) → Q (cond t [] (32 ∷ ahead 0 n (trimStart s)))
       go true = none
@@ -181,7 +181,7 @@ code-ahead n b s =
     rw (continued-ahead (continuations b) n s) (go (eqb (continued (continuations b) s) (continuations b)) refl)
   where
     go : (t : Bool) → eqb (continued (continuations b) s) (continuations b) ≡ t
-        → cond t (with_bits (firstBits b) (take (continuations b) (ahead (continued (continuations b) s) n s))) 0 ≡ cond t (with_bits (firstBits b) (take (continuations b) s)) 0
+        → cond t (withBits (firstBits b) (take (continuations b) (ahead (continued (continuations b) s) n s))) 0 ≡ cond t (withBits (firstBits b) (take (continuations b) s)) 0
     go true e = rw (take-ahead (continuations b) n s (eqb-true (continued (continuations b) s) (continuations b) e))
     go false e = refl
 
@@ -222,8 +222,8 @@ module _ (then : Taker) where
   abbrev Agree : List ℕ → ℕ → List ℕ → Type 0
   Agree words n s = stands (literal words then (ahead 0 n s)) ≡ stands (walk words then s)
 
-  fails_both : (a b : Taken) → a ≡ Fails → b ≡ Fails → stands a ≡ stands b
-  fails_both a b e f = rw (e, f)
+  fails-both : (a b : Taken) → a ≡ Fails → b ≡ Fails → stands a ≡ stands b
+  fails-both a b e f = rw (e, f)
 
   more-both : (m n : ℕ) (a b c d : Taken) → a ≡ more m c → b ≡ more n d → stands c ≡ stands d → stands a ≡ stands b
   more-both m n a b c d e f g = rw (e, f, stands-more m c, stands-more n d) g
@@ -231,15 +231,15 @@ module _ (then : Taker) where
   module _ (words : List ℕ) where
     space-agrees : (n : ℕ) (s : List ℕ) → begins words ≡ true → ((t : List ℕ) → Agree words n t) → Agree (32 ∷ words) (suc n) s
     space-agrees n [] h ih =
-        fails_both (literal (32 ∷ words) then (ahead 0 (suc n) [])) (walk (32 ∷ words) then []) (rw (ahead-end 0 (suc n)) (lit-end then 32 words))
+        fails-both (literal (32 ∷ words) then (ahead 0 (suc n) [])) (walk (32 ∷ words) then []) (rw (ahead-end 0 (suc n)) (lit-end then 32 words))
         (gap-no then words [] end-not-white)
     space-agrees n (b ∷ s) h ih = go (isWhitespace (codePoint (b ∷ s))) refl
       where
         lit : List ℕ → Taken
         lit u = literal (32 ∷ words) then u
 
-        inGap : (t : List ℕ) → stands (literal (32 ∷ words) then (cond (is_empty t) [] (32 ∷ ahead 0 n t))) ≡ stands (walk words then t)
-        inGap [] = fails_both (lit []) (walk words then []) (lit-end then 32 words) (begins-end then words h)
+        inGap : (t : List ℕ) → stands (literal (32 ∷ words) then (cond (isEmpty t) [] (32 ∷ ahead 0 n t))) ≡ stands (walk words then t)
+        inGap [] = fails-both (lit []) (walk words then []) (lit-end then 32 words) (begins-end then words h)
         inGap (c ∷ t) = rw (lit-yes then 32 words 32 (ahead 0 n (c ∷ t)) refl, stands-more 1 (literal words then (ahead 0 n (c ∷ t)))) (ih (c ∷ t))
 
         go : (t : Bool) → isWhitespace (codePoint (b ∷ s)) ≡ t → Agree (32 ∷ words) (suc n) (b ∷ s)
@@ -248,14 +248,14 @@ module _ (then : Taker) where
             ∙ inGap (trimStart (b ∷ s))
             ∙ sym (ap stands (gap-yes then words (b ∷ s) w) ∙ stands-more (run isWhitespace 0 (b ∷ s)) (walk words then (trimStart (b ∷ s))))
         go false w =
-            fails_both (lit (ahead 0 (suc n) (b ∷ s))) (walk (32 ∷ words) then (b ∷ s))
+            fails-both (lit (ahead 0 (suc n) (b ∷ s))) (walk (32 ∷ words) then (b ∷ s))
             (ap lit (ahead-letter (suc n) b s w) ∙ lit-no then 32 words (capital b) (ahead (continued (continuations b) s) (suc n) s) (other-no-space b s w))
             (gap-no then words (b ∷ s) w)
 
     module _ (p : ℕ) (o : eqb p 32 ≡ false) (v : isVisible p ≡ true) where
       letter-agrees : (n : ℕ) (s : List ℕ) → ((t : List ℕ) → Agree words n t) → Agree (p ∷ words) n s
       letter-agrees n [] ih =
-          fails_both (literal (p ∷ words) then (ahead 0 n [])) (walk (p ∷ words) then []) (rw (ahead-end 0 n) (lit-end then p words)) (letter-end then p words o)
+          fails-both (literal (p ∷ words) then (ahead 0 n [])) (walk (p ∷ words) then []) (rw (ahead-end 0 n) (lit-end then p words)) (letter-end then p words o)
       letter-agrees n (b ∷ s) ih = go (isWhitespace (codePoint (b ∷ s))) refl (eqb (capital b) p) refl
         where
           lit : List ℕ → Taken
@@ -270,7 +270,7 @@ module _ (then : Taker) where
           go : (t : Bool) → isWhitespace (codePoint (b ∷ s)) ≡ t → (u : Bool) → eqb (capital b) p ≡ u → Agree (p ∷ words) n (b ∷ s)
           go true w true e = absurd (false≢true (sym (visible-first b s (visible e)) ∙ w))
           go true w false e =
-              fails_both (lit (ahead 0 n (b ∷ s))) (walk (p ∷ words) then (b ∷ s))
+              fails-both (lit (ahead 0 n (b ∷ s))) (walk (p ∷ words) then (b ∷ s))
               (white-either (λ u. literal (p ∷ words) then u ≡ Fails) (lit-end then p words) (λ u. lit-no then p words 32 u space) n b s w)
               (letter-no then p words o b s e)
           go false w true e =
@@ -279,17 +279,17 @@ module _ (then : Taker) where
               ∙ rw (visible-alone b s (visible e)))
               (letter-yes then p words o b s e) (ih s)
           go false w false e =
-              fails_both (lit (ahead 0 n (b ∷ s))) (walk (p ∷ words) then (b ∷ s))
+              fails-both (lit (ahead 0 n (b ∷ s))) (walk (p ∷ words) then (b ∷ s))
               (ap lit (ahead-letter n b s w) ∙ lit-no then p words (capital b) (ahead (continued (continuations b) s) n s) e)
               (letter-no then p words o b s e)
 
-  pub stands_alike : Alike then → (words : List ℕ) (n : ℕ) (s : List ℕ) → shaped n words ≡ true → Agree words n s
+  pub stands-alike : Alike then → (words : List ℕ) (n : ℕ) (s : List ℕ) → shaped n words ≡ true → Agree words n s
   unfolding walk spelled
-  stands_alike a [] n s h = a n s
-  stands_alike a (p ∷ words) n s h = go (eqb p 32) refl n h (stands_alike a words)
+  stands-alike a [] n s h = a n s
+  stands-alike a (p ∷ words) n s h = go (eqb p 32) refl n h (stands-alike a words)
     where
       go : (t : Bool) → eqb p 32 ≡ t → (n : ℕ) → shaped n (p ∷ words) ≡ true → ((n : ℕ) (t : List ℕ) → shaped n words ≡ true → Agree words n t) → Agree (p ∷ words) n s
-      go true e zero h₁ ih = no_gap words (rw (eqb-true p 32 e) at h₁)
+      go true e zero h₁ ih = no-gap words (rw (eqb-true p 32 e) at h₁)
       go true e (suc n) h₁ ih =
           let q = eqb-true p 32 e in
           let sh = space-shape n words (rw q at h₁) in

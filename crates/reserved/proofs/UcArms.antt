@@ -66,10 +66,10 @@ abbrev allClear : List Arm → Bool
 allClear [] = true
 allClear (arm ∷ arms) = clearArm arm && allClear arms
 
-arm_is : (arm : Arm) (s : List ℕ) → clearArm arm ≡ true → armEnd arm s ≡ firstUcPhrase (phrasesOf arm) s
+arm-is : (arm : Arm) (s : List ℕ) → clearArm arm ≡ true → armEnd arm s ≡ firstUcPhrase (phrasesOf arm) s
 unfolding armEnd
-arm_is (ended c) s h = choice-is c endOfWord s h ∙ sym (plainly-is (own c) s)
-arm_is (endedIfExists c) s h = choice-is c (opt (bytes " IF EXISTS") endOfWord) s h ∙ sym (withExists-is (own c) s)
+arm-is (ended c) s h = choice-is c endOfWord s h ∙ sym (plainly-is (own c) s)
+arm-is (endedIfExists c) s h = choice-is c (opt (bytes " IF EXISTS") endOfWord) s h ∙ sym (withExists-is (own c) s)
 
 first-append : (A B : List Phrase) (s : List ℕ) → firstUcPhrase (A ++ B) s ≡ or (firstUcPhrase A s) (firstUcPhrase B s)
 unfolding firstUcPhrase
@@ -85,7 +85,7 @@ unfolding firstArm firstUcPhrase
 arms-are [] s h = refl
 arms-are (arm ∷ arms) s h =
     let h₂ = (and-eq-true_iff (clearArm arm) (allClear arms)).0 h in
-    rw (arm_is arm s h₂.0, arms-are arms s h₂.1) (sym (first-append (phrasesOf arm) (allPhrases arms) s))
+    rw (arm-is arm s h₂.0, arms-are arms s h₂.1) (sym (first-append (phrasesOf arm) (allPhrases arms) s))
 
 -- two tests that the checker computes
 

@@ -10,8 +10,8 @@ use borrow.Author.Tests.{lt-ltb, ne_eqb}
 use Rattle.characters.specs.Ranges.{within}
 use Rattle.characters.specs.Classes.{isWhitespace, isWordCharacter}
 use Rattle.characters.specs.Character.{isContinuation, continuations, continued, codePoint}
-use Rattle.characters.proofs.Within.{within_low, within-high, within-is, below-not, above-not}
-use Rattle.characters.proofs.ClassesApart.{visible-not-white, space-white, capital-word, small_word}
+use Rattle.characters.proofs.Within.{within-low, within-high, within-is, below-not, above-not}
+use Rattle.characters.proofs.ClassesApart.{visible-not-white, space-white, capital-word, small-word}
 use Rattle.characters.proofs.RunLaws.{ascii-first}
 use Rattle.recognisers.specs.Taking.{capital}
 
@@ -35,7 +35,7 @@ pub capital-visible : (b : ℕ) → isVisible (capital b) ≡ true → isVisible
 capital-visible b v = go (within 0x61 0x7A b) refl
   where
     go : (t : Bool) → within 0x61 0x7A b ≡ t → isVisible b ≡ true
-    go true e = within-is 0x21 0x7E b (let l = within_low 0x61 0x7A b e in omega arith) (let h = within-high 0x61 0x7A b e in omega arith)
+    go true e = within-is 0x21 0x7E b (let l = within-low 0x61 0x7A b e in omega arith) (let h = within-high 0x61 0x7A b e in omega arith)
     go false e = rw (capital-other b e) at v
 
 pub capital-space : (b : ℕ) → capital b ≡ 32 → b ≡ 32
@@ -44,13 +44,13 @@ capital-space b v = go (within 0x61 0x7A b) refl
     go : (t : Bool) → within 0x61 0x7A b ≡ t → b ≡ 32
     go true e =
         let c = capital-letter b e in
-        let l = within_low 0x61 0x7A b e in
+        let l = within-low 0x61 0x7A b e in
         absurd (let z : ⊥ = omega arith in z)
     go false e = sym (capital-other b e) ∙ v
 
 pub continuation-capital : (b : ℕ) → isContinuation b ≡ true → capital b ≡ b
 unfolding isContinuation
-continuation-capital b e = capital-other b (above-not 0x61 0x7A b (let l = within_low 0x80 0xBF b e in omega arith))
+continuation-capital b e = capital-other b (above-not 0x61 0x7A b (let l = within-low 0x80 0xBF b e in omega arith))
 
 pub continuation-stays : (b : ℕ) → isContinuation (capital b) ≡ isContinuation b
 unfolding isContinuation
@@ -65,7 +65,7 @@ continuation-stays b = go (within 0x61 0x7A b) refl
 
 pub continuation-hidden : (b : ℕ) → isContinuation b ≡ true → isVisible (capital b) ≡ false
 unfolding isContinuation
-continuation-hidden b e = rw (continuation-capital b e) (above-not 0x21 0x7E b (let l = within_low 0x80 0xBF b e in omega arith))
+continuation-hidden b e = rw (continuation-capital b e) (above-not 0x21 0x7E b (let l = within-low 0x80 0xBF b e in omega arith))
 
 -- ---- the first character
 
@@ -83,7 +83,7 @@ visible-alone b s v = rw (ascii-alone b (visible-ascii b v))
 pub visible-first : (b : ℕ) (s : List ℕ) → isVisible b ≡ true → isWhitespace (codePoint (b ∷ s)) ≡ false
 visible-first b s v =
     rw (ascii-first b s (visible-ascii b v))
-    (visible-not-white b (within_low 0x21 0x7E b v) (let h = within-high 0x21 0x7E b v in omega arith))
+    (visible-not-white b (within-low 0x21 0x7E b v) (let h = within-high 0x21 0x7E b v in omega arith))
 
 -- a character that is whitespace begins with no visible byte
 pub white-hidden : (b : ℕ) (s : List ℕ) → isWhitespace (codePoint (b ∷ s)) ≡ true → isVisible (capital b) ≡ false
@@ -106,7 +106,7 @@ other-no-space b s w = ne_eqb (capital b) 32 (λ e. false≢true (sym w ∙ (rw 
 pub letter-word : (b : ℕ) (s t : List ℕ) → within 0x61 0x7A b ≡ true → isWordCharacter (codePoint (capital b ∷ t)) ≡ isWordCharacter (codePoint (b ∷ s))
 letter-word b s t e =
     let c = capital-letter b e in
-    let l = within_low 0x61 0x7A b e in
+    let l = within-low 0x61 0x7A b e in
     let h = within-high 0x61 0x7A b e in
-    rw (ascii-first (capital b) t (omega arith), ascii-first b s (omega arith), small_word b e)
+    rw (ascii-first (capital b) t (omega arith), ascii-first b s (omega arith), small-word b e)
     (capital-word (capital b) (within-is 0x41 0x5A (capital b) (omega arith) (omega arith)))

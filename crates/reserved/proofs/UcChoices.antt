@@ -13,8 +13,8 @@ use borrow.Author.Tests.{eqb-true, eq-eqb}
 use Rattle.recognisers.specs.declared.Taken.{Taken}
 use Rattle.recognisers.specs.declared.Taken.TheVariants.{Bytes, Fails}
 use Rattle.recognisers.specs.Taking.{Taker, more, or, done, typed, isSpelled, literal}
-use Rattle.recognisers.proofs.Spelling.{not-fails, more-zero, spelled_is}
-use Rattle.reserved.specs.UcChoices.{Choice, words, both, either, maybe, behind, first_word, choose}
+use Rattle.recognisers.proofs.Spelling.{not-fails, more-zero, spelled-is}
+use Rattle.reserved.specs.UcChoices.{Choice, words, both, either, maybe, behind, firstWord, choose}
 use Rattle.reserved.proofs.Behind.{behind-behind, behind-same, literal-behind}
 use Rattle.reserved.proofs.UcFind.{left-of}
 use Rattle.reserved.proofs.UcWords.{literal-append}
@@ -81,8 +81,8 @@ one-begins (c ∷ w) (d ∷ x) (b ∷ s) e f =
     let q = eqb-true b d f₂.0 in
     rw (← p, ← q, eq-eqb b b refl) (one-begins w x s e₂.1 f₂.1)
 
-not_there : (x : List ℕ) (then : Taker) (s : List ℕ) → isSpelled typed x s ≡ false → literal x then s ≡ Fails
-not_there x then s e = spelled_is typed x s then ∙ rw e
+not-there : (x : List ℕ) (then : Taker) (s : List ℕ) → isSpelled typed x s ≡ false → literal x then s ≡ Fails
+not-there x then s e = spelled-is typed x s then ∙ rw e
 
 apart-fails : (w : List ℕ) (B : List (List ℕ)) (then : Taker) (s : List ℕ) → isSpelled typed w s ≡ true → apartFrom w B ≡ true → firstThen B then s ≡ Fails
 apart-fails w [] then s e a = refl
@@ -92,7 +92,7 @@ apart-fails w (x ∷ B) then s e a =
   where
     go : (t : Bool) → isSpelled typed x s ≡ t → (not (isSpelled typed w x) && not (isSpelled typed x w)) ≡ true → firstThen B then s ≡ Fails → or (literal x then s) (firstThen B then s) ≡ Fails
     go true q o rest = absurd (false≢true (sym (one-begins w x s e q) ∙ o))
-    go false q o rest = rw (not_there x then s q, rest)
+    go false q o rest = rw (not-there x then s q, rest)
 
 -- ---- where a choice stands, one of its words does
 
@@ -110,9 +110,9 @@ any-apart (w ∷ A) B then s e a =
     go true q o rest = apart-fails w B then s q o
     go false q o rest = rest (rw q at e)
 
-any_append : (A B : List (List ℕ)) (s : List ℕ) → anySpelled (A ++ B) s ≡ (anySpelled A s || anySpelled B s)
-any_append [] B s = refl
-any_append (w ∷ A) B s = rw (any_append A B s) (go (isSpelled typed w s))
+any-append : (A B : List (List ℕ)) (s : List ℕ) → anySpelled (A ++ B) s ≡ (anySpelled A s || anySpelled B s)
+any-append [] B s = refl
+any-append (w ∷ A) B s = rw (any-append A B s) (go (isSpelled typed w s))
   where
     go : (t : Bool) → (t || (anySpelled A s || anySpelled B s)) ≡ ((t || anySpelled A s) || anySpelled B s)
     go true = refl
@@ -131,23 +131,23 @@ any-prefixed w [] s e = refl
 any-prefixed w (x ∷ B) s e = rw (spelled-append w x s e, any-prefixed w B s e)
 
 there : (w s : List ℕ) → isSpelled typed w s ≡ true → literal w done s ≡ Bytes (length w)
-there w s e = spelled_is typed w s done ∙ rw e (ap Bytes (add-zero (length w)))
+there w s e = spelled-is typed w s done ∙ rw e (ap Bytes (add-zero (length w)))
 
 or-true : (a b : Bool) → b ≡ true → (a || b) ≡ true
 or-true true b e = refl
 or-true false b e = e
 
-words-cover : (ws B : List (List ℕ)) (s : List ℕ) (n : ℕ) → first_word ws s ≡ Bytes n → anySpelled B (drop n s) ≡ true → anySpelled (pairs ws B) s ≡ true
-unfolding first_word
+words-cover : (ws B : List (List ℕ)) (s : List ℕ) (n : ℕ) → firstWord ws s ≡ Bytes n → anySpelled B (drop n s) ≡ true → anySpelled (pairs ws B) s ≡ true
+unfolding firstWord
 words-cover [] B s n e a = not-fails n e
-words-cover (w ∷ ws) B s n e a = any_append (prefixed w B) (pairs ws B) s ∙ go (isSpelled typed w s) refl (words-cover ws B s n)
+words-cover (w ∷ ws) B s n e a = any-append (prefixed w B) (pairs ws B) s ∙ go (isSpelled typed w s) refl (words-cover ws B s n)
   where
-    go : (t : Bool) → isSpelled typed w s ≡ t → (first_word ws s ≡ Bytes n → anySpelled B (drop n s) ≡ true → anySpelled (pairs ws B) s ≡ true) → (anySpelled (prefixed w B) s || anySpelled (pairs ws B) s) ≡ true
+    go : (t : Bool) → isSpelled typed w s ≡ t → (firstWord ws s ≡ Bytes n → anySpelled B (drop n s) ≡ true → anySpelled (pairs ws B) s ≡ true) → (anySpelled (prefixed w B) s || anySpelled (pairs ws B) s) ≡ true
     go true q ih =
         let f : Bytes (length w) ≡ Bytes n = rw (there w s q) at e in
         let l : length w ≡ n = cc in
         rw (any-prefixed w B s q, l, a)
-    go false q ih = or-true (anySpelled (prefixed w B) s) (anySpelled (pairs ws B) s) (ih (rw (not_there w done s q) at e) a)
+    go false q ih = or-true (anySpelled (prefixed w B) s) (anySpelled (pairs ws B) s) (ih (rw (not-there w done s q) at e) a)
 
 covers : (c : Choice) (B : List (List ℕ)) (s : List ℕ) (n : ℕ) → choose c s ≡ Bytes n → anySpelled B (drop n s) ≡ true → anySpelled (written c B) s ≡ true
 unfolding choose
@@ -160,13 +160,13 @@ covers (both c d) B s n e a = go (choose c s) refl e (λ k. covers c (written d 
         let l = left-of k (choose d (drop k s)) n f in
         ih k q (jh k l.left l.is (rw (drop-drop l.left k s, ← l.sum) a))
     go Fails q f ih jh = not-fails n f
-covers (either c d) B s n e a = any_append (written c B) (written d B) s ∙ go (choose c s) refl e (covers c B s n) (covers d B s n)
+covers (either c d) B s n e a = any-append (written c B) (written d B) s ∙ go (choose c s) refl e (covers c B s n) (covers d B s n)
   where
     go : (t : Taken) → choose c s ≡ t → or t (choose d s) ≡ Bytes n → (choose c s ≡ Bytes n → anySpelled B (drop n s) ≡ true → anySpelled (written c B) s ≡ true)
         → (choose d s ≡ Bytes n → anySpelled B (drop n s) ≡ true → anySpelled (written d B) s ≡ true) → (anySpelled (written c B) s || anySpelled (written d B) s) ≡ true
     go (Bytes k) q f ih jh = rw (ih (q ∙ f) a)
     go Fails q f ih jh = or-true (anySpelled (written c B) s) (anySpelled (written d B) s) (jh f a)
-covers (maybe c) B s n e a = any_append (written c B) B s ∙ go (choose c s) refl e (covers c B s n)
+covers (maybe c) B s n e a = any-append (written c B) B s ∙ go (choose c s) refl e (covers c B s n)
   where
     go : (t : Taken) → choose c s ≡ t → or t (Bytes 0) ≡ Bytes n → (choose c s ≡ Bytes n → anySpelled B (drop n s) ≡ true → anySpelled (written c B) s ≡ true) → (anySpelled (written c B) s || anySpelled B s) ≡ true
     go (Bytes k) q f ih = rw (ih (q ∙ f) a)
@@ -206,25 +206,25 @@ prefixed-then w [] then s = go (literal w done s)
 prefixed-then w (x ∷ B) then s =
     rw (literal-append w x then s, literal-behind w (literal x then) s, prefixed-then w B then s) (or-behind (literal w done s) (literal x then) (firstThen B then) s)
 
-firstWord-is : (ws : List (List ℕ)) (s : List ℕ) → first_word ws s ≡ firstThen ws done s
-unfolding first_word
+firstWord-is : (ws : List (List ℕ)) (s : List ℕ) → firstWord ws s ≡ firstThen ws done s
+unfolding firstWord
 firstWord-is [] s = refl
 firstWord-is (w ∷ ws) s = rw (firstWord-is ws s)
 
-words-commit : (ws B : List (List ℕ)) (then : Taker) (s : List ℕ) → eachApart ws ≡ true → behind (first_word ws s) (firstThen B then) s ≡ firstThen (pairs ws B) then s
-unfolding first_word
+words-commit : (ws B : List (List ℕ)) (then : Taker) (s : List ℕ) → eachApart ws ≡ true → behind (firstWord ws s) (firstThen B then) s ≡ firstThen (pairs ws B) then s
+unfolding firstWord
 words-commit [] B then s h = refl
 words-commit (w ∷ ws) B then s h =
     let h₂ = (and-eq-true_iff (apartFrom w ws) (eachApart ws)).0 h in
     go (isSpelled typed w s) refl h₂.0 (words-commit ws B then s h₂.1)
     ∙ sym (firstThen-append (prefixed w B) (pairs ws B) then s ∙ rw (prefixed-then w B then s))
   where
-    go : (t : Bool) → isSpelled typed w s ≡ t → apartFrom w ws ≡ true → behind (first_word ws s) (firstThen B then) s ≡ firstThen (pairs ws B) then s
-        → behind (or (literal w done s) (first_word ws s)) (firstThen B then) s ≡ or (behind (literal w done s) (firstThen B then) s) (firstThen (pairs ws B) then s)
+    go : (t : Bool) → isSpelled typed w s ≡ t → apartFrom w ws ≡ true → behind (firstWord ws s) (firstThen B then) s ≡ firstThen (pairs ws B) then s
+        → behind (or (literal w done s) (firstWord ws s)) (firstThen B then) s ≡ or (behind (literal w done s) (firstThen B then) s) (firstThen (pairs ws B) then s)
     go true q o ih =
-        let none : first_word ws s ≡ Fails = firstWord-is ws s ∙ apart-fails w ws done s q o in
+        let none : firstWord ws s ≡ Fails = firstWord-is ws s ∙ apart-fails w ws done s q o in
         rw (← ih, none, or-fails (literal w done s)) (sym (or-fails (behind (literal w done s) (firstThen B then) s)))
-    go false q o ih = rw (not_there w done s q) ih
+    go false q o ih = rw (not-there w done s q) ih
 
 pub commits : (c : Choice) (B : List (List ℕ)) (then : Taker) (s : List ℕ) → clear c B ≡ true → behind (choose c s) (firstThen B then) s ≡ firstThen (written c B) then s
 unfolding choose

@@ -154,12 +154,12 @@ module _ (c : ℕ) (word : List ℕ) (v : isVisible c ≡ true) where
 
       go : (k : ℕ) → ((k : ℕ) → Skips (run isWhitespace (continued k s) s) s) → Skips (run isWhitespace (continued k (b ∷ s)) (b ∷ s)) (b ∷ s)
       go zero ih = first ih
-      go (suc k) ih = by_byte (isContinuation b) refl
+      go (suc k) ih = byByte (isContinuation b) refl
         where
-          by_byte : (t : Bool) → isContinuation b ≡ t → Skips (run isWhitespace (cond t (suc (continued k s)) 0) (b ∷ s)) (b ∷ s)
-          by_byte true e =
+          byByte : (t : Bool) → isContinuation b ≡ t → Skips (run isWhitespace (cond t (suc (continued k s)) 0) (b ∷ s)) (b ∷ s)
+          byByte true e =
               skip-one b (run isWhitespace (continued k s) s) s (drop (run isWhitespace (continued k s) s) s) (continuation-hidden b e) (ih k)
-          by_byte false e = first ih
+          byByte false e = first ih
 
   trim-skips : (s : List ℕ) → find (c ∷ word) (toAsciiUppercase s) ≡ more (run isWhitespace 0 s) (find (c ∷ word) (toAsciiUppercase (trimStart s)))
   unfolding continued
@@ -236,22 +236,22 @@ module _ (c : ℕ) (word : List ℕ) (v : isVisible c ≡ true) (vs : allVisible
 
 -- ---- `finalize`
 
-abbrev ends_at : Taken → ℕ → ℕ → Bool
-ends_at (Bytes k) size m = eqb (k + size) m
-ends_at Fails size m = false
+abbrev endsAt : Taken → ℕ → ℕ → Bool
+endsAt (Bytes k) size m = eqb (k + size) m
+endsAt Fails size m = false
 
 -- the last word of a phrase is visible, and its first occurrence in the phrase is its own place
 abbrev pub endsItself : List ℕ → List ℕ → Bool
-endsItself words last = begins last && (allVisible last && ends_at (find last words) (length last) (length words))
+endsItself words last = begins last && (allVisible last && endsAt (find last words) (length last) (length words))
 
 ends-walk : (words last s : List ℕ) (m : ℕ) → endsItself words last ≡ true → walk words done s ≡ Bytes m → taken (find last (toAsciiUppercase s)) + length last ≡ m
 ends-walk words [] s m o e = absurd (false≢true o)
 ends-walk words (c ∷ word) s m o e =
-    let o₂ = (and-eq-true_iff (isVisible c) (allVisible (c ∷ word) && ends_at (find (c ∷ word) words) (suc (length word)) (length words))).0 o in
-    let o₃ = (and-eq-true_iff (allVisible (c ∷ word)) (ends_at (find (c ∷ word) words) (suc (length word)) (length words))).0 o₂.1 in
+    let o₂ = (and-eq-true_iff (isVisible c) (allVisible (c ∷ word) && endsAt (find (c ∷ word) words) (suc (length word)) (length words))).0 o in
+    let o₃ = (and-eq-true_iff (allVisible (c ∷ word)) (endsAt (find (c ∷ word) words) (suc (length word)) (length words))).0 o₂.1 in
     go o₂.0 o₃.0 (find (c ∷ word) words) refl o₃.1
   where
-    go : isVisible c ≡ true → allVisible (c ∷ word) ≡ true → (t : Taken) → find (c ∷ word) words ≡ t → ends_at t (suc (length word)) (length words) ≡ true
+    go : isVisible c ≡ true → allVisible (c ∷ word) ≡ true → (t : Taken) → find (c ∷ word) words ≡ t → endsAt t (suc (length word)) (length words) ≡ true
         → taken (find (c ∷ word) (toAsciiUppercase s)) + suc (length word) ≡ m
     go v vs (Bytes k) f l =
         let r = find-walk c word v vs words s m k e f (eqb-true (k + suc (length word)) (length words) l) in

@@ -9,7 +9,7 @@ use mathlib.Core.Bool.{Bool, true, false, ◌&&◌, false≢true, and-eq-true_if
 use Rattle.characters.specs.Ranges.{within, inRanges}
 use Rattle.characters.specs.WhiteSpace.{whiteSpace}
 use Rattle.characters.specs.Classes.{isWhitespace}
-use Rattle.characters.specs.Character.{isContinuation, continuations, continued, firstBits, with_bits, codePoint}
+use Rattle.characters.specs.Character.{isContinuation, continuations, continued, firstBits, withBits, codePoint}
 use Rattle.characters.specs.Runs.{run}
 use Rattle.recognisers.specs.declared.Taken.{Taken}
 use Rattle.recognisers.specs.declared.Taken.TheVariants.{Bytes, Fails}
@@ -22,7 +22,7 @@ use Rattle.reserved.specs.NewlineAfter.{newlineAfterPhrases}
 use Rattle.reserved.specs.Newline.{newlinePhrases}
 use Rattle.reserved.specs.Join.{joinPhrases}
 use Rattle.reserved.specs.NoIndent.{noIndentPhrases}
-use Rattle.reserved.specs.Plain.{plainTwoPhrases, plainA, plainB, plainC, plainD, plainE, plain_f, plainG, plainH, plainI, plainK, plainL, plainM, plainN, plainO, plainP, plainQ, plainR, plainS, plainT, plainU, plainV, plainW, plainY, plainOnePhrases}
+use Rattle.reserved.specs.Plain.{plainTwoPhrases, plainA, plainB, plainC, plainD, plainE, plainF, plainG, plainH, plainI, plainK, plainL, plainM, plainN, plainO, plainP, plainQ, plainR, plainS, plainT, plainU, plainV, plainW, plainY, plainOnePhrases}
 use Rattle.reserved.proofs.UcWords.{isPhrase, agrees, agrees-if-exists, agrees-one}
 
 abbrev ownEnds : ℕ → Phrase → Bool
@@ -37,31 +37,31 @@ allOwnEnds n (p ∷ phrases) = ownEnds n p && allOwnEnds n phrases
 -- ---- the test, with as many words as each recogniser asks of `get_uc_words`
 
 top-level-ends : allOwnEnds 4 topLevelPhrases ≡ true
-unfolding topLevelPhrases creatable alterableOrDroppable eachDropped each find isSpelled typed lastWord splitWhitespace run isWhitespace inRanges within whiteSpace codePoint continuations continued isContinuation firstBits with_bits
+unfolding topLevelPhrases creatable alterableOrDroppable eachDropped each find isSpelled typed lastWord splitWhitespace run isWhitespace inRanges within whiteSpace codePoint continuations continued isContinuation firstBits withBits
 top-level-ends = refl
 
 newline-after-ends : allOwnEnds 3 newlineAfterPhrases ≡ true
-unfolding newlineAfterPhrases find isSpelled typed lastWord splitWhitespace run isWhitespace inRanges within whiteSpace codePoint continuations continued isContinuation firstBits with_bits
+unfolding newlineAfterPhrases find isSpelled typed lastWord splitWhitespace run isWhitespace inRanges within whiteSpace codePoint continuations continued isContinuation firstBits withBits
 newline-after-ends = refl
 
 newline-ends : allOwnEnds 3 newlinePhrases ≡ true
-unfolding newlinePhrases find isSpelled typed lastWord splitWhitespace run isWhitespace inRanges within whiteSpace codePoint continuations continued isContinuation firstBits with_bits
+unfolding newlinePhrases find isSpelled typed lastWord splitWhitespace run isWhitespace inRanges within whiteSpace codePoint continuations continued isContinuation firstBits withBits
 newline-ends = refl
 
 join-ends : allOwnEnds 3 joinPhrases ≡ true
-unfolding joinPhrases find isSpelled typed lastWord splitWhitespace run isWhitespace inRanges within whiteSpace codePoint continuations continued isContinuation firstBits with_bits
+unfolding joinPhrases find isSpelled typed lastWord splitWhitespace run isWhitespace inRanges within whiteSpace codePoint continuations continued isContinuation firstBits withBits
 join-ends = refl
 
 no-indent-ends : allOwnEnds 2 noIndentPhrases ≡ true
-unfolding noIndentPhrases find isSpelled typed lastWord splitWhitespace run isWhitespace inRanges within whiteSpace codePoint continuations continued isContinuation firstBits with_bits
+unfolding noIndentPhrases find isSpelled typed lastWord splitWhitespace run isWhitespace inRanges within whiteSpace codePoint continuations continued isContinuation firstBits withBits
 no-indent-ends = refl
 
 plain-two-ends : allOwnEnds 2 plainTwoPhrases ≡ true
-unfolding plainTwoPhrases find isSpelled typed lastWord splitWhitespace run isWhitespace inRanges within whiteSpace codePoint continuations continued isContinuation firstBits with_bits
+unfolding plainTwoPhrases find isSpelled typed lastWord splitWhitespace run isWhitespace inRanges within whiteSpace codePoint continuations continued isContinuation firstBits withBits
 plain-two-ends = refl
 
 plain-one-ends : allOwnEnds 1 plainOnePhrases ≡ true
-unfolding plainOnePhrases plainA plainB plainC plainD plainE plain_f plainG plainH plainI plainK plainL plainM plainN plainO plainP plainQ plainR plainS plainT plainU plainV plainW plainY find isSpelled typed lastWord splitWhitespace run isWhitespace inRanges within whiteSpace codePoint continuations continued isContinuation firstBits with_bits
+unfolding plainOnePhrases plainA plainB plainC plainD plainE plainF plainG plainH plainI plainK plainL plainM plainN plainO plainP plainQ plainR plainS plainT plainU plainV plainW plainY find isSpelled typed lastWord splitWhitespace run isWhitespace inRanges within whiteSpace codePoint continuations continued isContinuation firstBits withBits
 plain-one-ends = refl
 
 -- ---- a group
@@ -99,7 +99,7 @@ single-agrees (phrase words ∷ phrases) s q h w =
 single-agrees (phraseIfExists words ∷ phrases) s q h w = absurd (false≢true q)
 
 plain-one-plain : allPlain plainOnePhrases ≡ true
-unfolding plainOnePhrases plainA plainB plainC plainD plainE plain_f plainG plainH plainI plainK plainL plainM plainN plainO plainP plainQ plainR plainS plainT plainU plainV plainW plainY
+unfolding plainOnePhrases plainA plainB plainC plainD plainE plainF plainG plainH plainI plainK plainL plainM plainN plainO plainP plainQ plainR plainS plainT plainU plainV plainW plainY
 plain-one-plain = refl
 
 -- ---- the six groups

@@ -10,7 +10,7 @@ use native.Mathlib.Omega.{arith}
 use Rattle.characters.specs.Ranges.{within}
 use Rattle.characters.specs.Classes.{isWhitespace}
 use Rattle.characters.specs.Character.{codePoint}
-use Rattle.recognisers.specs.Taking.{capital, starts_with}
+use Rattle.recognisers.specs.Taking.{capital, startsWith}
 use Rattle.reserved.specs.declared.TopLevel.{TopLevel}
 use Rattle.reserved.specs.Reserved.{mayBeReserved, getTopLevelReservedToken, getNewlineAfterReservedToken, getNewlineReservedToken, getJoinToken, getTopLevelReservedTokenNoIndent, getPlainReservedToken, getReservedWordToken}
 use Rattle.reserved.specs.Phrases.{firstPhrase}
@@ -18,20 +18,20 @@ use Rattle.reserved.specs.TopLevel.{topLevelPhrases}
 use Rattle.reserved.specs.UcWords.{getUcWords, finalized, firstByUcWords}
 use Rattle.reserved.specs.UcChoices.{topLevelByUcWords}
 use Rattle.reserved.specs.UcReserved.{getReservedWordTokenByUcWords}
-use Rattle.characters.proofs.Within.{within_low, within-high, within-is}
+use Rattle.characters.proofs.Within.{within-low, within-high, within-is}
 use Rattle.reserved.proofs.UcBytes.{isVisible, capital-visible, visible-first}
 use Rattle.reserved.proofs.UcArms.{top-level-arms}
 use Rattle.reserved.proofs.UcGroups.{top-level-agrees, newline-after-agrees, newline-agrees, join-agrees, no-indent-agrees, plain-two-agrees, plain-one-agrees}
 
 -- a letter or `$` is no whitespace
 pub reserved-not-white : (s : List ℕ) → mayBeReserved s ≡ true → isWhitespace (codePoint s) ≡ false
-unfolding mayBeReserved starts_with capital within
+unfolding mayBeReserved startsWith capital within
 reserved-not-white [] e = absurd (false≢true e)
 reserved-not-white (b ∷ s) e = visible-first b s (go (within 65 90 (capital b)) refl (eqb b 36) refl e)
   where
     go : (t : Bool) → within 65 90 (capital b) ≡ t → (u : Bool) → eqb b 36 ≡ u → (t || u) ≡ true → isVisible b ≡ true
     go true q u r o =
-        let l = within_low 65 90 (capital b) q in
+        let l = within-low 65 90 (capital b) q in
         let h = within-high 65 90 (capital b) q in
         capital-visible b (within-is 0x21 0x7E (capital b) (omega arith) (omega arith))
     go false q true r o = rw (eqb-true b 36 r)

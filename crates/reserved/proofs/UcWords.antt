@@ -20,8 +20,8 @@ use Rattle.reserved.specs.Phrases.{walk, after, optional, phrase, phraseIfExists
 use Rattle.reserved.specs.UcWords.{trimStart, splitWhitespace, getUcWords, lastWord, finalize, opt, ucPhrase, finalized, phraseByUcWords}
 use Rattle.reserved.specs.UcChoices.{behind}
 use Rattle.reserved.proofs.Behind.{behind-same, literal-behind}
-use Rattle.reserved.proofs.PhraseWalk.{walk_step, walk-and}
-use Rattle.reserved.proofs.UcAhead.{begins, shaped, ahead, ahead-end, stands, done-alike, end-of-word-alike, stands_alike, letter-shape, no_gap}
+use Rattle.reserved.proofs.PhraseWalk.{walk-step, walk-and}
+use Rattle.reserved.proofs.UcAhead.{begins, shaped, ahead, ahead-end, stands, done-alike, end-of-word-alike, stands-alike, letter-shape, no-gap}
 use Rattle.reserved.proofs.UcFind.{left-of, letter-of, no-letter-at-end, endsItself, finalize-walk}
 
 -- the words that `get_uc_words` takes, where the text begins with one
@@ -101,7 +101,7 @@ unfolding phraseByUcWords ucPhrase
 agrees zero words s h w = absurd (false≢true h)
 agrees (suc n) words s h w =
     go (literal words endOfWord (getUcWords (suc n) s)) refl (walk words endOfWord s) refl
-    (ap (λ (u : List ℕ). stands (literal words endOfWord u)) (uc-ahead n s w) ∙ stands_alike endOfWord end-of-word-alike words n s (is-phrase n words h).shape)
+    (ap (λ (u : List ℕ). stands (literal words endOfWord u)) (uc-ahead n s w) ∙ stands-alike endOfWord end-of-word-alike words n s (is-phrase n words h).shape)
   where
     go : (t : Taken) → literal words endOfWord (getUcWords (suc n) s) ≡ t → (u : Taken) → walk words endOfWord s ≡ u
         → stands (literal words endOfWord (getUcWords (suc n) s)) ≡ stands (walk words endOfWord s)
@@ -150,9 +150,9 @@ walk-append : (words more : List ℕ) (then : Taker) (s : List ℕ) → walk (wo
 unfolding walk
 walk-append [] more then s = refl
 walk-append (p ∷ words) more then s =
-    walk_step p (words ++ more) then s
+    walk-step p (words ++ more) then s
     ∙ behind-same (walk (p ∷ []) done s) (walk (words ++ more) then) (walk words (walk more then)) s (walk-append words more then)
-    ∙ sym (walk_step p words (walk more then) s)
+    ∙ sym (walk-step p words (walk more then) s)
 
 pub literal-append : (words more : List ℕ) (then : Taker) (s : List ℕ) → literal (words ++ more) then s ≡ literal words (literal more then) s
 unfolding spelled one
@@ -173,7 +173,7 @@ module _ (n : ℕ) (words s : List ℕ) (h : isPhrase n words ≡ true) (w : isW
     both-stand : (n : ℕ) → isPhrase n (words ++ exists) ≡ true → stands (literal (words ++ exists) done (getUcWords n s)) ≡ stands (walk (words ++ exists) done s)
     both-stand zero q = absurd (false≢true q)
     both-stand (suc n) q =
-        ap (λ (u : List ℕ). stands (literal (words ++ exists) done u)) (uc-ahead n s w) ∙ stands_alike done done-alike (words ++ exists) n s (is-phrase n (words ++ exists) q).shape
+        ap (λ (u : List ℕ). stands (literal (words ++ exists) done u)) (uc-ahead n s w) ∙ stands-alike done done-alike (words ++ exists) n s (is-phrase n (words ++ exists) q).shape
 
     pub agrees-if-exists : phraseByUcWords n (phraseIfExists words) s ≡ walk words (optional exists endOfWord) s
     unfolding phraseByUcWords ucPhrase opt optional
@@ -199,7 +199,7 @@ single-walk [] s m h e = let f : 0 ≡ m = cc in sym f
 single-walk (p ∷ words) s m h e = go (eqb p 32) refl s e (single-walk words)
   where
     go : (t : Bool) → eqb p 32 ≡ t → (s : List ℕ) → walk (p ∷ words) done s ≡ Bytes m → ((t : List ℕ) (k : ℕ) → shaped 0 words ≡ true → walk words done t ≡ Bytes k → k ≡ length words) → m ≡ suc (length words)
-    go true q s f ih = no_gap words (rw (eqb-true p 32 q) at h)
+    go true q s f ih = no-gap words (rw (eqb-true p 32 q) at h)
     go false q [] f ih = no-letter-at-end p words m q f
     go false q (b ∷ s) f ih =
         let a = letter-of p words b s m q f in

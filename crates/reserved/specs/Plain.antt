@@ -116,8 +116,8 @@ plainE =
     ∷ []
 
 -- `get_plain_reserved_one_token`, F
-unfoldable pub plain_f : List Phrase
-plain_f =
+unfoldable pub plainF : List Phrase
+plainF =
     phrase (bytes "FAST")
     ∷ phrase (bytes "FETCH")
     ∷ phrase (bytes "FIELDS")
@@ -400,4 +400,4 @@ plainY =
 
 unfoldable pub plainOnePhrases : List Phrase
 plainOnePhrases =
-    plainA ++ plainB ++ plainC ++ plainD ++ plainE ++ plain_f ++ plainG ++ plainH ++ plainI ++ plainK ++ plainL ++ plainM ++ plainN ++ plainO ++ plainP ++ plainQ ++ plainR ++ plainS ++ plainT ++ plainU ++ plainV ++ plainW ++ plainY
+    plainA ++ plainB ++ plainC ++ plainD ++ plainE ++ plainF ++ plainG ++ plainH ++ plainI ++ plainK ++ plainL ++ plainM ++ plainN ++ plainO ++ plainP ++ plainQ ++ plainR ++ plainS ++ plainT ++ plainU ++ plainV ++ plainW ++ plainY

@@ -9,7 +9,7 @@ use Rattle.recognisers.specs.declared.Recognised.{Recognised}
 use Rattle.recognisers.specs.declared.Recognised.TheVariants.{Token, Nothing}
 use Rattle.recognisers.specs.Text.{byte, bytes}
 use Rattle.recognisers.specs.Same.{same}
-use Rattle.recognisers.specs.Taking.{typed, isSpelled, capital, starts_with}
+use Rattle.recognisers.specs.Taking.{typed, isSpelled, capital, startsWith}
 use Rattle.recognisers.specs.Pieces.{piece, tokenOf, alt}
 use Rattle.characters.specs.Ranges.{within}
 use Rattle.reserved.specs.declared.TopLevel.{TopLevel}
@@ -85,7 +85,7 @@ getPlainReservedToken s = alt (tokenOf Reserved (firstPhrase plainTwoPhrases s))
 
 -- a letter or `$`
 unfoldable pub mayBeReserved : List ℕ → Bool
-mayBeReserved s = within (byte "A") (byte "Z") (capital (get_or s 0 0)) || starts_with (byte "$") s
+mayBeReserved s = within (byte "A") (byte "Z") (capital (get_or s 0 0)) || startsWith (byte "$") s
 
 -- none is tried after a `.`
 unfoldable pub getReservedWordToken : Bool → Bool → TopLevel → List ℕ → Recognised

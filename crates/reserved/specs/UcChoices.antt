@@ -27,12 +27,12 @@ behind (Bytes n) then uc = more n (then (drop n uc))
 behind Fails then uc = Fails
 
 -- the first of the words that stands there
-unfoldable pub first_word : List (List ℕ) → Taker
-first_word [] uc = Fails
-first_word (w ∷ ws) uc = or (literal w done uc) (first_word ws uc)
+unfoldable pub firstWord : List (List ℕ) → Taker
+firstWord [] uc = Fails
+firstWord (w ∷ ws) uc = or (literal w done uc) (firstWord ws uc)
 
 unfoldable pub choose : Choice → Taker
-choose (words ws) uc = first_word ws uc
+choose (words ws) uc = firstWord ws uc
 choose (both a b) uc = behind (choose a uc) (choose b) uc
 choose (either a b) uc = or (choose a uc) (choose b uc)
 choose (maybe a) uc = or (choose a uc) (Bytes 0)

@@ -15,15 +15,15 @@ notWhitespace c = not (isWhitespace c)
 abbrev pub trimStart : List ℕ → List ℕ
 trimStart s = drop (run isWhitespace 0 s) s
 
-abbrev pub is_empty : List ℕ → Bool
-is_empty [] = true
-is_empty (b ∷ s) = false
+abbrev pub isEmpty : List ℕ → Bool
+isEmpty [] = true
+isEmpty (b ∷ s) = false
 
 -- the first n words: `split_whitespace().take(n)`
 unfoldable pub splitWhitespace : ℕ → List ℕ → List (List ℕ)
 splitWhitespace zero s = []
 splitWhitespace (suc n) s =
-    cond (is_empty (trimStart s)) []
+    cond (isEmpty (trimStart s)) []
     (take (run notWhitespace 0 (trimStart s)) (trimStart s)
     ∷ splitWhitespace n (drop (run notWhitespace 0 (trimStart s)) (trimStart s)))
 
@@ -48,13 +48,13 @@ unfoldable pub find : List ℕ → Taker
 find word [] = cond (isSpelled typed word []) (Bytes 0) Fails
 find word (b ∷ s) = cond (isSpelled typed word (b ∷ s)) (Bytes 0) (more 1 (find word s))
 
-abbrev pub last_or : List ℕ → List (List ℕ) → List ℕ
-last_or none [] = none
-last_or none (word ∷ words) = last_or word words
+abbrev pub lastOr : List ℕ → List (List ℕ) → List ℕ
+lastOr none [] = none
+lastOr none (word ∷ words) = lastOr word words
 
 -- `split_whitespace().last().unwrap_or(token)`: there are no more words than bytes
 unfoldable pub lastWord : List ℕ → List ℕ
-lastWord token = last_or token (splitWhitespace (length token) token)
+lastWord token = lastOr token (splitWhitespace (length token) token)
 
 -- how many bytes of the input are the token's: up to the end of what is the first occurrence of its last word in the whole
 -- input, wherever that is

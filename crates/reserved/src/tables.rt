@@ -1,7 +1,7 @@
 // One decision on the first letter and one on the first word's length pick the table in which a phrase is looked for. Made by
 // tools/phrases.py from the lists in specs/.
 ghost use Rattle.std.specs.Prelude.{◌≡◌};
-ghost use Rattle.reserved.specs.Inner.Entries.{length_of, group_of, entries, entriesOf, findEntry};
+ghost use Rattle.reserved.specs.Inner.Entries.{lengthOf, groupOf, entries, entriesOf, findEntry};
 ghost use Rattle.recognisers.specs.Inner.WordLength.{wordLength};
 
 use crate::find::find_in;
@@ -10,8 +10,8 @@ use recognisers::capital_of;
 
 fn find_dollar(rest: &[u8], n: usize, found: &mut u8) -> usize
     requires { n ≡ wordLength rest.now }
-    ensures value { result ≡ length_of (findEntry (entriesOf 36 entries) rest.now) }
-    ensures found_after { found.new ≡ group_of found.old (findEntry (entriesOf 36 entries) rest.now) }
+    ensures value { result ≡ lengthOf (findEntry (entriesOf 36 entries) rest.now) }
+    ensures found_after { found.new ≡ groupOf found.old (findEntry (entriesOf 36 entries) rest.now) }
 {
     match n {
         0 => find_in(&phrases::DOLLAR_0, rest, found),
@@ -21,8 +21,8 @@ fn find_dollar(rest: &[u8], n: usize, found: &mut u8) -> usize
 
 fn find_a(rest: &[u8], n: usize, found: &mut u8) -> usize
     requires { n ≡ wordLength rest.now }
-    ensures value { result ≡ length_of (findEntry (entriesOf 65 entries) rest.now) }
-    ensures found_after { found.new ≡ group_of found.old (findEntry (entriesOf 65 entries) rest.now) }
+    ensures value { result ≡ lengthOf (findEntry (entriesOf 65 entries) rest.now) }
+    ensures found_after { found.new ≡ groupOf found.old (findEntry (entriesOf 65 entries) rest.now) }
 {
     match n {
         2 => find_in(&phrases::A_2, rest, found),
@@ -40,8 +40,8 @@ fn find_a(rest: &[u8], n: usize, found: &mut u8) -> usize
 
 fn find_b(rest: &[u8], n: usize, found: &mut u8) -> usize
     requires { n ≡ wordLength rest.now }
-    ensures value { result ≡ length_of (findEntry (entriesOf 66 entries) rest.now) }
-    ensures found_after { found.new ≡ group_of found.old (findEntry (entriesOf 66 entries) rest.now) }
+    ensures value { result ≡ lengthOf (findEntry (entriesOf 66 entries) rest.now) }
+    ensures found_after { found.new ≡ groupOf found.old (findEntry (entriesOf 66 entries) rest.now) }
 {
     match n {
         4 => find_in(&phrases::B_4, rest, found),
@@ -54,8 +54,8 @@ fn find_b(rest: &[u8], n: usize, found: &mut u8) -> usize
 
 fn find_c(rest: &[u8], n: usize, found: &mut u8) -> usize
     requires { n ≡ wordLength rest.now }
-    ensures value { result ≡ length_of (findEntry (entriesOf 67 entries) rest.now) }
-    ensures found_after { found.new ≡ group_of found.old (findEntry (entriesOf 67 entries) rest.now) }
+    ensures value { result ≡ lengthOf (findEntry (entriesOf 67 entries) rest.now) }
+    ensures found_after { found.new ≡ groupOf found.old (findEntry (entriesOf 67 entries) rest.now) }
 {
     match n {
         4 => find_in(&phrases::C_4, rest, found),
@@ -72,8 +72,8 @@ fn find_c(rest: &[u8], n: usize, found: &mut u8) -> usize
 
 fn find_d(rest: &[u8], n: usize, found: &mut u8) -> usize
     requires { n ≡ wordLength rest.now }
-    ensures value { result ≡ length_of (findEntry (entriesOf 68 entries) rest.now) }
-    ensures found_after { found.new ≡ group_of found.old (findEntry (entriesOf 68 entries) rest.now) }
+    ensures value { result ≡ lengthOf (findEntry (entriesOf 68 entries) rest.now) }
+    ensures found_after { found.new ≡ groupOf found.old (findEntry (entriesOf 68 entries) rest.now) }
 {
     match n {
         2 => find_in(&phrases::D_2, rest, found),
@@ -92,8 +92,8 @@ fn find_d(rest: &[u8], n: usize, found: &mut u8) -> usize
 
 fn find_e(rest: &[u8], n: usize, found: &mut u8) -> usize
     requires { n ≡ wordLength rest.now }
-    ensures value { result ≡ length_of (findEntry (entriesOf 69 entries) rest.now) }
-    ensures found_after { found.new ≡ group_of found.old (findEntry (entriesOf 69 entries) rest.now) }
+    ensures value { result ≡ lengthOf (findEntry (entriesOf 69 entries) rest.now) }
+    ensures found_after { found.new ≡ groupOf found.old (findEntry (entriesOf 69 entries) rest.now) }
 {
     match n {
         3 => find_in(&phrases::E_3, rest, found),
@@ -108,8 +108,8 @@ fn find_e(rest: &[u8], n: usize, found: &mut u8) -> usize
 
 fn find_f(rest: &[u8], n: usize, found: &mut u8) -> usize
     requires { n ≡ wordLength rest.now }
-    ensures value { result ≡ length_of (findEntry (entriesOf 70 entries) rest.now) }
-    ensures found_after { found.new ≡ group_of found.old (findEntry (entriesOf 70 entries) rest.now) }
+    ensures value { result ≡ lengthOf (findEntry (entriesOf 70 entries) rest.now) }
+    ensures found_after { found.new ≡ groupOf found.old (findEntry (entriesOf 70 entries) rest.now) }
 {
     match n {
         3 => find_in(&phrases::F_3, rest, found),
@@ -124,8 +124,8 @@ fn find_f(rest: &[u8], n: usize, found: &mut u8) -> usize
 
 fn find_g(rest: &[u8], n: usize, found: &mut u8) -> usize
     requires { n ≡ wordLength rest.now }
-    ensures value { result ≡ length_of (findEntry (entriesOf 71 entries) rest.now) }
-    ensures found_after { found.new ≡ group_of found.old (findEntry (entriesOf 71 entries) rest.now) }
+    ensures value { result ≡ lengthOf (findEntry (entriesOf 71 entries) rest.now) }
+    ensures found_after { found.new ≡ groupOf found.old (findEntry (entriesOf 71 entries) rest.now) }
 {
     match n {
         2 => find_in(&phrases::G_2, rest, found),
@@ -138,8 +138,8 @@ fn find_g(rest: &[u8], n: usize, found: &mut u8) -> usize
 
 fn find_h(rest: &[u8], n: usize, found: &mut u8) -> usize
     requires { n ≡ wordLength rest.now }
-    ensures value { result ≡ length_of (findEntry (entriesOf 72 entries) rest.now) }
-    ensures found_after { found.new ≡ group_of found.old (findEntry (entriesOf 72 entries) rest.now) }
+    ensures value { result ≡ lengthOf (findEntry (entriesOf 72 entries) rest.now) }
+    ensures found_after { found.new ≡ groupOf found.old (findEntry (entriesOf 72 entries) rest.now) }
 {
     match n {
         4 => find_in(&phrases::H_4, rest, found),
@@ -153,8 +153,8 @@ fn find_h(rest: &[u8], n: usize, found: &mut u8) -> usize
 
 fn find_i(rest: &[u8], n: usize, found: &mut u8) -> usize
     requires { n ≡ wordLength rest.now }
-    ensures value { result ≡ length_of (findEntry (entriesOf 73 entries) rest.now) }
-    ensures found_after { found.new ≡ group_of found.old (findEntry (entriesOf 73 entries) rest.now) }
+    ensures value { result ≡ lengthOf (findEntry (entriesOf 73 entries) rest.now) }
+    ensures found_after { found.new ≡ groupOf found.old (findEntry (entriesOf 73 entries) rest.now) }
 {
     match n {
         2 => find_in(&phrases::I_2, rest, found),
@@ -172,8 +172,8 @@ fn find_i(rest: &[u8], n: usize, found: &mut u8) -> usize
 
 fn find_j(rest: &[u8], n: usize, found: &mut u8) -> usize
     requires { n ≡ wordLength rest.now }
-    ensures value { result ≡ length_of (findEntry (entriesOf 74 entries) rest.now) }
-    ensures found_after { found.new ≡ group_of found.old (findEntry (entriesOf 74 entries) rest.now) }
+    ensures value { result ≡ lengthOf (findEntry (entriesOf 74 entries) rest.now) }
+    ensures found_after { found.new ≡ groupOf found.old (findEntry (entriesOf 74 entries) rest.now) }
 {
     match n {
         4 => find_in(&phrases::J_4, rest, found),
@@ -183,8 +183,8 @@ fn find_j(rest: &[u8], n: usize, found: &mut u8) -> usize
 
 fn find_k(rest: &[u8], n: usize, found: &mut u8) -> usize
     requires { n ≡ wordLength rest.now }
-    ensures value { result ≡ length_of (findEntry (entriesOf 75 entries) rest.now) }
-    ensures found_after { found.new ≡ group_of found.old (findEntry (entriesOf 75 entries) rest.now) }
+    ensures value { result ≡ lengthOf (findEntry (entriesOf 75 entries) rest.now) }
+    ensures found_after { found.new ≡ groupOf found.old (findEntry (entriesOf 75 entries) rest.now) }
 {
     match n {
         3 => find_in(&phrases::K_3, rest, found),
@@ -195,8 +195,8 @@ fn find_k(rest: &[u8], n: usize, found: &mut u8) -> usize
 
 fn find_l(rest: &[u8], n: usize, found: &mut u8) -> usize
     requires { n ≡ wordLength rest.now }
-    ensures value { result ≡ length_of (findEntry (entriesOf 76 entries) rest.now) }
-    ensures found_after { found.new ≡ group_of found.old (findEntry (entriesOf 76 entries) rest.now) }
+    ensures value { result ≡ lengthOf (findEntry (entriesOf 76 entries) rest.now) }
+    ensures found_after { found.new ≡ groupOf found.old (findEntry (entriesOf 76 entries) rest.now) }
 {
     match n {
         4 => find_in(&phrases::L_4, rest, found),
@@ -211,8 +211,8 @@ fn find_l(rest: &[u8], n: usize, found: &mut u8) -> usize
 
 fn find_m(rest: &[u8], n: usize, found: &mut u8) -> usize
     requires { n ≡ wordLength rest.now }
-    ensures value { result ≡ length_of (findEntry (entriesOf 77 entries) rest.now) }
-    ensures found_after { found.new ≡ group_of found.old (findEntry (entriesOf 77 entries) rest.now) }
+    ensures value { result ≡ lengthOf (findEntry (entriesOf 77 entries) rest.now) }
+    ensures found_after { found.new ≡ groupOf found.old (findEntry (entriesOf 77 entries) rest.now) }
 {
     match n {
         4 => find_in(&phrases::M_4, rest, found),
@@ -231,8 +231,8 @@ fn find_m(rest: &[u8], n: usize, found: &mut u8) -> usize
 
 fn find_n(rest: &[u8], n: usize, found: &mut u8) -> usize
     requires { n ≡ wordLength rest.now }
-    ensures value { result ≡ length_of (findEntry (entriesOf 78 entries) rest.now) }
-    ensures found_after { found.new ≡ group_of found.old (findEntry (entriesOf 78 entries) rest.now) }
+    ensures value { result ≡ lengthOf (findEntry (entriesOf 78 entries) rest.now) }
+    ensures found_after { found.new ≡ groupOf found.old (findEntry (entriesOf 78 entries) rest.now) }
 {
     match n {
         3 => find_in(&phrases::N_3, rest, found),
@@ -245,8 +245,8 @@ fn find_n(rest: &[u8], n: usize, found: &mut u8) -> usize
 
 fn find_o(rest: &[u8], n: usize, found: &mut u8) -> usize
     requires { n ≡ wordLength rest.now }
-    ensures value { result ≡ length_of (findEntry (entriesOf 79 entries) rest.now) }
-    ensures found_after { found.new ≡ group_of found.old (findEntry (entriesOf 79 entries) rest.now) }
+    ensures value { result ≡ lengthOf (findEntry (entriesOf 79 entries) rest.now) }
+    ensures found_after { found.new ≡ groupOf found.old (findEntry (entriesOf 79 entries) rest.now) }
 {
     match n {
         2 => find_in(&phrases::O_2, rest, found),
@@ -262,8 +262,8 @@ fn find_o(rest: &[u8], n: usize, found: &mut u8) -> usize
 
 fn find_p(rest: &[u8], n: usize, found: &mut u8) -> usize
     requires { n ≡ wordLength rest.now }
-    ensures value { result ≡ length_of (findEntry (entriesOf 80 entries) rest.now) }
-    ensures found_after { found.new ≡ group_of found.old (findEntry (entriesOf 80 entries) rest.now) }
+    ensures value { result ≡ lengthOf (findEntry (entriesOf 80 entries) rest.now) }
+    ensures found_after { found.new ≡ groupOf found.old (findEntry (entriesOf 80 entries) rest.now) }
 {
     match n {
         4 => find_in(&phrases::P_4, rest, found),
@@ -279,8 +279,8 @@ fn find_p(rest: &[u8], n: usize, found: &mut u8) -> usize
 
 fn find_q(rest: &[u8], n: usize, found: &mut u8) -> usize
     requires { n ≡ wordLength rest.now }
-    ensures value { result ≡ length_of (findEntry (entriesOf 81 entries) rest.now) }
-    ensures found_after { found.new ≡ group_of found.old (findEntry (entriesOf 81 entries) rest.now) }
+    ensures value { result ≡ lengthOf (findEntry (entriesOf 81 entries) rest.now) }
+    ensures found_after { found.new ≡ groupOf found.old (findEntry (entriesOf 81 entries) rest.now) }
 {
     match n {
         5 => find_in(&phrases::Q_5, rest, found),
@@ -290,8 +290,8 @@ fn find_q(rest: &[u8], n: usize, found: &mut u8) -> usize
 
 fn find_r(rest: &[u8], n: usize, found: &mut u8) -> usize
     requires { n ≡ wordLength rest.now }
-    ensures value { result ≡ length_of (findEntry (entriesOf 82 entries) rest.now) }
-    ensures found_after { found.new ≡ group_of found.old (findEntry (entriesOf 82 entries) rest.now) }
+    ensures value { result ≡ lengthOf (findEntry (entriesOf 82 entries) rest.now) }
+    ensures found_after { found.new ≡ groupOf found.old (findEntry (entriesOf 82 entries) rest.now) }
 {
     match n {
         3 => find_in(&phrases::R_3, rest, found),
@@ -310,8 +310,8 @@ fn find_r(rest: &[u8], n: usize, found: &mut u8) -> usize
 
 fn find_s(rest: &[u8], n: usize, found: &mut u8) -> usize
     requires { n ≡ wordLength rest.now }
-    ensures value { result ≡ length_of (findEntry (entriesOf 83 entries) rest.now) }
-    ensures found_after { found.new ≡ group_of found.old (findEntry (entriesOf 83 entries) rest.now) }
+    ensures value { result ≡ lengthOf (findEntry (entriesOf 83 entries) rest.now) }
+    ensures found_after { found.new ≡ groupOf found.old (findEntry (entriesOf 83 entries) rest.now) }
 {
     match n {
         3 => find_in(&phrases::S_3, rest, found),
@@ -338,8 +338,8 @@ fn find_s(rest: &[u8], n: usize, found: &mut u8) -> usize
 
 fn find_t(rest: &[u8], n: usize, found: &mut u8) -> usize
     requires { n ≡ wordLength rest.now }
-    ensures value { result ≡ length_of (findEntry (entriesOf 84 entries) rest.now) }
-    ensures found_after { found.new ≡ group_of found.old (findEntry (entriesOf 84 entries) rest.now) }
+    ensures value { result ≡ lengthOf (findEntry (entriesOf 84 entries) rest.now) }
+    ensures found_after { found.new ≡ groupOf found.old (findEntry (entriesOf 84 entries) rest.now) }
 {
     match n {
         2 => find_in(&phrases::T_2, rest, found),
@@ -356,8 +356,8 @@ fn find_t(rest: &[u8], n: usize, found: &mut u8) -> usize
 
 fn find_u(rest: &[u8], n: usize, found: &mut u8) -> usize
     requires { n ≡ wordLength rest.now }
-    ensures value { result ≡ length_of (findEntry (entriesOf 85 entries) rest.now) }
-    ensures found_after { found.new ≡ group_of found.old (findEntry (entriesOf 85 entries) rest.now) }
+    ensures value { result ≡ lengthOf (findEntry (entriesOf 85 entries) rest.now) }
+    ensures found_after { found.new ≡ groupOf found.old (findEntry (entriesOf 85 entries) rest.now) }
 {
     match n {
         3 => find_in(&phrases::U_3, rest, found),
@@ -371,8 +371,8 @@ fn find_u(rest: &[u8], n: usize, found: &mut u8) -> usize
 
 fn find_v(rest: &[u8], n: usize, found: &mut u8) -> usize
     requires { n ≡ wordLength rest.now }
-    ensures value { result ≡ length_of (findEntry (entriesOf 86 entries) rest.now) }
-    ensures found_after { found.new ≡ group_of found.old (findEntry (entriesOf 86 entries) rest.now) }
+    ensures value { result ≡ lengthOf (findEntry (entriesOf 86 entries) rest.now) }
+    ensures found_after { found.new ≡ groupOf found.old (findEntry (entriesOf 86 entries) rest.now) }
 {
     match n {
         4 => find_in(&phrases::V_4, rest, found),
@@ -385,8 +385,8 @@ fn find_v(rest: &[u8], n: usize, found: &mut u8) -> usize
 
 fn find_w(rest: &[u8], n: usize, found: &mut u8) -> usize
     requires { n ≡ wordLength rest.now }
-    ensures value { result ≡ length_of (findEntry (entriesOf 87 entries) rest.now) }
-    ensures found_after { found.new ≡ group_of found.old (findEntry (entriesOf 87 entries) rest.now) }
+    ensures value { result ≡ lengthOf (findEntry (entriesOf 87 entries) rest.now) }
+    ensures found_after { found.new ≡ groupOf found.old (findEntry (entriesOf 87 entries) rest.now) }
 {
     match n {
         4 => find_in(&phrases::W_4, rest, found),
@@ -398,8 +398,8 @@ fn find_w(rest: &[u8], n: usize, found: &mut u8) -> usize
 
 fn find_x(rest: &[u8], n: usize, found: &mut u8) -> usize
     requires { n ≡ wordLength rest.now }
-    ensures value { result ≡ length_of (findEntry (entriesOf 88 entries) rest.now) }
-    ensures found_after { found.new ≡ group_of found.old (findEntry (entriesOf 88 entries) rest.now) }
+    ensures value { result ≡ lengthOf (findEntry (entriesOf 88 entries) rest.now) }
+    ensures found_after { found.new ≡ groupOf found.old (findEntry (entriesOf 88 entries) rest.now) }
 {
     match n {
         3 => find_in(&phrases::X_3, rest, found),
@@ -409,8 +409,8 @@ fn find_x(rest: &[u8], n: usize, found: &mut u8) -> usize
 
 fn find_y(rest: &[u8], n: usize, found: &mut u8) -> usize
     requires { n ≡ wordLength rest.now }
-    ensures value { result ≡ length_of (findEntry (entriesOf 89 entries) rest.now) }
-    ensures found_after { found.new ≡ group_of found.old (findEntry (entriesOf 89 entries) rest.now) }
+    ensures value { result ≡ lengthOf (findEntry (entriesOf 89 entries) rest.now) }
+    ensures found_after { found.new ≡ groupOf found.old (findEntry (entriesOf 89 entries) rest.now) }
 {
     match n {
         10 => find_in(&phrases::Y_10, rest, found),
@@ -421,8 +421,8 @@ fn find_y(rest: &[u8], n: usize, found: &mut u8) -> usize
 // The first phrase that stands at the start of the rest: how many bytes it takes, or 0. Its group's letter is written to `found`.
 pub fn find_phrase(rest: &[u8], n: usize, found: &mut u8) -> usize
     requires { n ≡ wordLength rest.now }
-    ensures value { result ≡ length_of (findEntry entries rest.now) }
-    ensures found_after { found.new ≡ group_of found.old (findEntry entries rest.now) }
+    ensures value { result ≡ lengthOf (findEntry entries rest.now) }
+    ensures found_after { found.new ≡ groupOf found.old (findEntry entries rest.now) }
 {
     if rest.len() == 0 {
         return 0;

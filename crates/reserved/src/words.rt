@@ -3,7 +3,7 @@ ghost use Rattle.std.specs.Prelude.{◌≡◌, not, ◌&&◌, ◌||◌, ◌≤�
 ghost use Rattle.characters.specs.Ranges.{within};
 ghost use Rattle.recognisers.specs.Text.{byte, bytes};
 ghost use Rattle.recognisers.specs.Same.{same};
-ghost use Rattle.recognisers.specs.Taking.{typed, isSpelled, capital, starts_with};
+ghost use Rattle.recognisers.specs.Taking.{typed, isSpelled, capital, startsWith};
 ghost use Rattle.recognisers.specs.Inner.WordLength.{wordLength};
 ghost use Rattle.recognisers.specs.declared.Taken.TheVariants.{Bytes};
 ghost use Rattle.reserved.specs.Reserved.{isSelect, isUpdate, takesUsing, topLevelKind, aliasLength, topLevelToken, newlineToken, mayBeReserved, getReservedWordToken};
@@ -165,7 +165,7 @@ fn may_be_reserved(rest: &[u8]) -> bool
 
 // A `$` without another behind it begins no phrase.
 fn is_lone_dollar(rest: &[u8]) -> bool
-    ensures { result ≡ (starts_with (byte "$") rest.now && not (starts_with (byte "$") (drop 1 rest.now))) }
+    ensures { result ≡ (startsWith (byte "$") rest.now && not (startsWith (byte "$") (drop 1 rest.now))) }
 {
     if stands_at(rest, 0, b'$') {
         return !stands_at(rest, 1, b'$');

@@ -22,9 +22,9 @@ use Rattle.tight.specs.Agree.{Compared, reading, isGap, withoutGaps, gaps, Agree
 use Rattle.tight.proofs.Whitespace.{isBlank, none-blank}
 use Rattle.tight.proofs.LineComments.{isNil, returns-part, no-newline}
 use Rattle.tight.proofs.SimPieces.{told}
-use Rattle.tight.proofs.ReadingItems.{past, readFrom, reading-is, read_none, read_one, afterGap, run-text, gapCompared, read-gap, Mark, none, plain, returning, Item, item, sortAfter, gapNext, items, is-gap, given-line, compared-no-gap}
+use Rattle.tight.proofs.ReadingItems.{past, readFrom, reading-is, read-none, read-one, afterGap, run-text, gapCompared, read-gap, Mark, none, plain, returning, Item, item, sortAfter, gapNext, items, is-gap, given-line, compared-no-gap}
 use Rattle.tight.proofs.GapRuns.{each-rest, gap-of}
-use Rattle.tight.proofs.TightReading.{Found, found, only-gaps, markEnd, gap_of, mark, items-one}
+use Rattle.tight.proofs.TightReading.{Found, found, only-gaps, markEnd, gapOf, mark, items-one}
 
 -- the tokens of items, and the places and sorts of the gaps behind them
 unfoldable strip : List Item → List Compared
@@ -57,15 +57,15 @@ module _ (settings : Settings) where
 
   placed-nil : Placed []
   unfolding gaps items places
-  placed-nil memory n h = rw (read_none settings memory)
+  placed-nil memory n h = rw (read-none settings memory)
 
   -- behind a token of some kind: y
   module _ (memory : Memory) (kind : TokenKind) (n : ℕ) where
-    abbrev told_of : List ℕ → List (ℕ × Bool)
-    told_of z = places (suc n) (items (readFrom settings memory 0 z))
+    abbrev told-of : List ℕ → List (ℕ × Bool)
+    told-of z = places (suc n) (items (readFrom settings memory 0 z))
 
-    behind : (y : List ℕ) → sortAfter kind (gap_of y) ≡ returns (gap_of y) → gaps (suc n) (readFrom settings memory 0 (afterGap y)) ≡ told_of (afterGap y)
-        → gaps (suc n) (readFrom settings memory 0 y) ≡ placing (suc n) (mark kind y) (told_of (afterGap y))
+    behind : (y : List ℕ) → sortAfter kind (gapOf y) ≡ returns (gapOf y) → gaps (suc n) (readFrom settings memory 0 (afterGap y)) ≡ told-of (afterGap y)
+        → gaps (suc n) (readFrom settings memory 0 y) ≡ placing (suc n) (mark kind y) (told-of (afterGap y))
     unfolding gaps mark
     behind [] f h = rw none-blank (ap (λ (l : List ℕ). gaps (suc n) (readFrom settings memory 0 l)) (sym (after-nil)) ∙ h)
       where
@@ -80,18 +80,18 @@ module _ (settings : Settings) where
         turn false false k ps = refl
 
         go : (t : Bool) → isBlank (b ∷ x) ≡ t
-            → gaps (suc n) (readFrom settings memory 0 (b ∷ x)) ≡ placing (suc n) (cond t (markEnd (sortAfter kind (gap_of (b ∷ x))) (isNil (afterGap (b ∷ x)))) none) (told_of (afterGap (b ∷ x)))
+            → gaps (suc n) (readFrom settings memory 0 (b ∷ x)) ≡ placing (suc n) (cond t (markEnd (sortAfter kind (gapOf (b ∷ x))) (isNil (afterGap (b ∷ x)))) none) (told-of (afterGap (b ∷ x)))
         go true e =
             rw (read-gap settings memory b x e, is-gap (run isWhitespace 0 (b ∷ x)) (b ∷ x), ne_eqb (suc n) 0 (omega arith), only-gaps settings memory (afterGap (b ∷ x)) (gap-of (b ∷ x)).ended, h, f)
-            (turn (returns (gap_of (b ∷ x))) (isNil (afterGap (b ∷ x))) (suc n) (told_of (afterGap (b ∷ x))))
+            (turn (returns (gapOf (b ∷ x))) (isNil (afterGap (b ∷ x))) (suc n) (told-of (afterGap (b ∷ x))))
         go false e = let k : afterGap (b ∷ x) ≡ b ∷ x = rw (run-text (b ∷ x) e) in ap (λ (l : List ℕ). gaps (suc n) (readFrom settings memory 0 l)) (sym k) ∙ h
 
   -- behind a line comment no gap returns
   sort-is : (memory : Memory) (b : ℕ) (x : List ℕ) (f : Found settings memory b x) → isBlank (b ∷ x) ≡ false
-      → sortAfter (givenOut settings.joins f.p.kind) (gap_of (drop f.n x)) ≡ returns (gap_of (drop f.n x))
+      → sortAfter (givenOut settings.joins f.p.kind) (gapOf (drop f.n x)) ≡ returns (gapOf (drop f.n x))
   sort-is memory b x f w = rw (given-line settings.joins f.p.kind) (go (isKind f.p.kind K.LineComment) refl)
     where
-      go : (t : Bool) → isKind f.p.kind K.LineComment ≡ t → cond t false (returns (gap_of (drop f.n x))) ≡ returns (gap_of (drop f.n x))
+      go : (t : Bool) → isKind f.p.kind K.LineComment ≡ t → cond t false (returns (gapOf (drop f.n x))) ≡ returns (gapOf (drop f.n x))
       go true e =
           sym (returns-part (run isWhitespace 0 (drop f.n x)) (drop f.n x) (no-newline (afterGap (drop f.n x)) (gap-of (drop f.n x)).ended) ((told settings memory b x w f.p f.is f.n f.long).1 e).behind)
       go false e = refl
@@ -100,7 +100,7 @@ module _ (settings : Settings) where
   unfolding gaps places
   placed-cons b x ih memory n h =
       let f = found settings memory b x in
-      rw (items-one settings memory b x f.p f.n h f.is f.long, read_one settings memory b x f.p f.n f.is f.long, compared-no-gap settings memory b x f.p h f.is)
+      rw (items-one settings memory b x f.p f.n h f.is f.long, read-one settings memory b x f.p f.n f.is f.long, compared-no-gap settings memory b x f.p h f.is)
       (behind (past memory f.p (b ∷ x)) (givenOut settings.joins f.p.kind) n (drop f.n x) (sort-is memory b x f h) (rest f.n (past memory f.p (b ∷ x))))
     where
       rest : (k : ℕ) (m : Memory) → gaps (suc n) (readFrom settings m 0 (afterGap (drop k x))) ≡ places (suc n) (items (readFrom settings m 0 (afterGap (drop k x))))

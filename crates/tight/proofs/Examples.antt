@@ -10,7 +10,7 @@ use Rattle.recognisers.specs.declared.TokenKind.TheVariants as K
 use Rattle.recognisers.specs.Text.{bytes}
 use Rattle.calls.specs.declared.Settings.{Settings}
 use Rattle.characters.specs.Alphabetic.{alphabetic}
-use Rattle.characters.specs.Character.{isContinuation, continuations, continued, firstBits, with_bits, characterLength, codePoint, character}
+use Rattle.characters.specs.Character.{isContinuation, continuations, continued, firstBits, withBits, characterLength, codePoint, character}
 use Rattle.characters.specs.Classes.{isWhitespace, isAlphabetic, isNumeric, isMark, isPunctuationConnector, isAlphanumeric, isWordCharacter, isPlaceholderNameCharacter}
 use Rattle.characters.specs.Connector.{connector}
 use Rattle.characters.specs.Mark.{mark}
@@ -23,7 +23,7 @@ use Rattle.recognisers.specs.Number.{decimalNumber, signedDigits, exponent, scie
 use Rattle.recognisers.specs.Parens.{getOpenParenToken, getCloseParenToken}
 use Rattle.recognisers.specs.Placeholder.{numberFrom, indexedKey, indexedTaken, getIndexedPlaceholderToken, placeholderName, identTaken, getIdentNamedPlaceholderToken, throughBrace, bracedText, bracedTaken, getBracedNamedPlaceholderToken, hasEscape, stringKey, stringNamedTaken, getStringNamedPlaceholderToken, getPlaceholderToken}
 use Rattle.recognisers.specs.Strings.{takeTillEscaping, closedBy, hexTaken, quotedTaken, stringTaken, getStringToken, placeholderQuotedTaken, placeholderStringTaken}
-use Rattle.recognisers.specs.Taking.{one, spelled, isSpelled, typed, capital, blanks, endOfWord, count, digit1, digit0, contains, starts_with}
+use Rattle.recognisers.specs.Taking.{one, spelled, isSpelled, typed, capital, blanks, endOfWord, count, digit1, digit0, contains, startsWith}
 use Rattle.recognisers.specs.TypeSpecifier.{getTypeSpecifierToken}
 use Rattle.recognisers.specs.Words.{getWhitespaceToken, isOperator, getOperatorToken, getWordToken, getAnyOtherChar}
 use Rattle.reserved.specs.Join.{joinPhrases}
@@ -31,7 +31,7 @@ use Rattle.reserved.specs.Newline.{newlinePhrases}
 use Rattle.reserved.specs.NewlineAfter.{newlineAfterPhrases}
 use Rattle.reserved.specs.NoIndent.{noIndentPhrases}
 use Rattle.reserved.specs.Phrases.{walk, optional, phraseEnd, firstPhrase, each}
-use Rattle.reserved.specs.Plain.{plainTwoPhrases, plainA, plainB, plainC, plainD, plainE, plain_f, plainG, plainH, plainI, plainK, plainL, plainM, plainN, plainO, plainP, plainQ, plainR, plainS, plainT, plainU, plainV, plainW, plainY, plainOnePhrases}
+use Rattle.reserved.specs.Plain.{plainTwoPhrases, plainA, plainB, plainC, plainD, plainE, plainF, plainG, plainH, plainI, plainK, plainL, plainM, plainN, plainO, plainP, plainQ, plainR, plainS, plainT, plainU, plainV, plainW, plainY, plainOnePhrases}
 use Rattle.recognisers.specs.Same.{same}
 use Rattle.reserved.specs.Reserved.{topLevelKind, aliasLength, getTopLevelReservedToken, getNewlineAfterReservedToken, getNewlineReservedToken, getJoinToken, getTopLevelReservedTokenNoIndent, getPlainReservedToken, mayBeReserved, getReservedWordToken}
 use Rattle.reserved.specs.TopLevel.{creatable, alterableOrDroppable, eachDropped, topLevelPhrases}
@@ -70,7 +70,7 @@ examples =
     ∷ []
 
 pub tightened : map (λ e. tight generic e.0) examples ≡ map (λ e. e.1) examples
-unfolding alphabetic isContinuation continuations continued firstBits with_bits characterLength codePoint character isWhitespace isAlphabetic isNumeric isMark isPunctuationConnector isAlphanumeric isWordCharacter isPlaceholderNameCharacter connector mark numeric within inRanges inClass run whiteSpace tillLineEnding throughBlockEnd getCommentToken decimalNumber signedDigits exponent scientificNotation unsigned getNumberToken getOpenParenToken getCloseParenToken numberFrom indexedKey indexedTaken getIndexedPlaceholderToken placeholderName identTaken getIdentNamedPlaceholderToken throughBrace bracedText bracedTaken getBracedNamedPlaceholderToken hasEscape stringKey stringNamedTaken getStringNamedPlaceholderToken getPlaceholderToken takeTillEscaping closedBy hexTaken quotedTaken stringTaken getStringToken placeholderQuotedTaken placeholderStringTaken one spelled isSpelled typed capital blanks endOfWord count digit1 digit0 contains starts_with getTypeSpecifierToken getWhitespaceToken isOperator getOperatorToken getWordToken getAnyOtherChar joinPhrases newlinePhrases newlineAfterPhrases noIndentPhrases walk optional phraseEnd firstPhrase each plainTwoPhrases plainA plainB plainC plainD plainE plain_f plainG plainH plainI plainK plainL plainM plainN plainO plainP plainQ plainR plainS plainT plainU plainV plainW plainY plainOnePhrases same topLevelKind aliasLength getTopLevelReservedToken getNewlineAfterReservedToken getNewlineReservedToken getJoinToken getTopLevelReservedTokenNoIndent getPlainReservedToken mayBeReserved getReservedWordToken creatable alterableOrDroppable eachDropped topLevelPhrases takesTypeSpecifier topLevelOf afterBetween lastTopLevel remember remembered fromWord fromPlaceholder fromOperator fromReserved fromNumber fromCloseParen fromOpenParen fromString fromTypeSpecifier getNextToken nextPiece givenOut tokensFrom tokens T.isGap returns gapAfter tightFrom tight generic examples
+unfolding alphabetic isContinuation continuations continued firstBits withBits characterLength codePoint character isWhitespace isAlphabetic isNumeric isMark isPunctuationConnector isAlphanumeric isWordCharacter isPlaceholderNameCharacter connector mark numeric within inRanges inClass run whiteSpace tillLineEnding throughBlockEnd getCommentToken decimalNumber signedDigits exponent scientificNotation unsigned getNumberToken getOpenParenToken getCloseParenToken numberFrom indexedKey indexedTaken getIndexedPlaceholderToken placeholderName identTaken getIdentNamedPlaceholderToken throughBrace bracedText bracedTaken getBracedNamedPlaceholderToken hasEscape stringKey stringNamedTaken getStringNamedPlaceholderToken getPlaceholderToken takeTillEscaping closedBy hexTaken quotedTaken stringTaken getStringToken placeholderQuotedTaken placeholderStringTaken one spelled isSpelled typed capital blanks endOfWord count digit1 digit0 contains startsWith getTypeSpecifierToken getWhitespaceToken isOperator getOperatorToken getWordToken getAnyOtherChar joinPhrases newlinePhrases newlineAfterPhrases noIndentPhrases walk optional phraseEnd firstPhrase each plainTwoPhrases plainA plainB plainC plainD plainE plainF plainG plainH plainI plainK plainL plainM plainN plainO plainP plainQ plainR plainS plainT plainU plainV plainW plainY plainOnePhrases same topLevelKind aliasLength getTopLevelReservedToken getNewlineAfterReservedToken getNewlineReservedToken getJoinToken getTopLevelReservedTokenNoIndent getPlainReservedToken mayBeReserved getReservedWordToken creatable alterableOrDroppable eachDropped topLevelPhrases takesTypeSpecifier topLevelOf afterBetween lastTopLevel remember remembered fromWord fromPlaceholder fromOperator fromReserved fromNumber fromCloseParen fromOpenParen fromString fromTypeSpecifier getNextToken nextPiece givenOut tokensFrom tokens T.isGap returns gapAfter tightFrom tight generic examples
 tightened = refl
 
 -- the gaps that count, each with its place and whether it returns: not the first, nor the last unless it returns
@@ -83,7 +83,7 @@ told =
     ∷ []
 
 pub gaps-told : map (λ e. gaps 0 (reading generic e.0)) told ≡ map (λ e. e.1) told
-unfolding alphabetic isContinuation continuations continued firstBits with_bits characterLength codePoint character isWhitespace isAlphabetic isNumeric isMark isPunctuationConnector isAlphanumeric isWordCharacter isPlaceholderNameCharacter connector mark numeric within inRanges inClass run whiteSpace tillLineEnding throughBlockEnd getCommentToken decimalNumber signedDigits exponent scientificNotation unsigned getNumberToken getOpenParenToken getCloseParenToken numberFrom indexedKey indexedTaken getIndexedPlaceholderToken placeholderName identTaken getIdentNamedPlaceholderToken throughBrace bracedText bracedTaken getBracedNamedPlaceholderToken hasEscape stringKey stringNamedTaken getStringNamedPlaceholderToken getPlaceholderToken takeTillEscaping closedBy hexTaken quotedTaken stringTaken getStringToken placeholderQuotedTaken placeholderStringTaken one spelled isSpelled typed capital blanks endOfWord count digit1 digit0 contains starts_with getTypeSpecifierToken getWhitespaceToken isOperator getOperatorToken getWordToken getAnyOtherChar joinPhrases newlinePhrases newlineAfterPhrases noIndentPhrases walk optional phraseEnd firstPhrase each plainTwoPhrases plainA plainB plainC plainD plainE plain_f plainG plainH plainI plainK plainL plainM plainN plainO plainP plainQ plainR plainS plainT plainU plainV plainW plainY plainOnePhrases same topLevelKind aliasLength getTopLevelReservedToken getNewlineAfterReservedToken getNewlineReservedToken getJoinToken getTopLevelReservedTokenNoIndent getPlainReservedToken mayBeReserved getReservedWordToken creatable alterableOrDroppable eachDropped topLevelPhrases takesTypeSpecifier topLevelOf afterBetween lastTopLevel remember remembered fromWord fromPlaceholder fromOperator fromReserved fromNumber fromCloseParen fromOpenParen fromString fromTypeSpecifier getNextToken nextPiece givenOut tokensFrom tokens compared comparedAll reading isGap onlyGaps returns gaps generic told
+unfolding alphabetic isContinuation continuations continued firstBits withBits characterLength codePoint character isWhitespace isAlphabetic isNumeric isMark isPunctuationConnector isAlphanumeric isWordCharacter isPlaceholderNameCharacter connector mark numeric within inRanges inClass run whiteSpace tillLineEnding throughBlockEnd getCommentToken decimalNumber signedDigits exponent scientificNotation unsigned getNumberToken getOpenParenToken getCloseParenToken numberFrom indexedKey indexedTaken getIndexedPlaceholderToken placeholderName identTaken getIdentNamedPlaceholderToken throughBrace bracedText bracedTaken getBracedNamedPlaceholderToken hasEscape stringKey stringNamedTaken getStringNamedPlaceholderToken getPlaceholderToken takeTillEscaping closedBy hexTaken quotedTaken stringTaken getStringToken placeholderQuotedTaken placeholderStringTaken one spelled isSpelled typed capital blanks endOfWord count digit1 digit0 contains startsWith getTypeSpecifierToken getWhitespaceToken isOperator getOperatorToken getWordToken getAnyOtherChar joinPhrases newlinePhrases newlineAfterPhrases noIndentPhrases walk optional phraseEnd firstPhrase each plainTwoPhrases plainA plainB plainC plainD plainE plainF plainG plainH plainI plainK plainL plainM plainN plainO plainP plainQ plainR plainS plainT plainU plainV plainW plainY plainOnePhrases same topLevelKind aliasLength getTopLevelReservedToken getNewlineAfterReservedToken getNewlineReservedToken getJoinToken getTopLevelReservedTokenNoIndent getPlainReservedToken mayBeReserved getReservedWordToken creatable alterableOrDroppable eachDropped topLevelPhrases takesTypeSpecifier topLevelOf afterBetween lastTopLevel remember remembered fromWord fromPlaceholder fromOperator fromReserved fromNumber fromCloseParen fromOpenParen fromString fromTypeSpecifier getNextToken nextPiece givenOut tokensFrom tokens compared comparedAll reading isGap onlyGaps returns gaps generic told
 gaps-told = refl
 
 pub kinds : List Compared → List TokenKind
@@ -91,9 +91,9 @@ kinds cs = map (λ c. c.kind) cs
 
 -- `#` is an Operator where a CR without LF comes first, and so it is in the tight text
 pub hash-kinds : kinds (withoutGaps (reading generic (bytes "#a\rb\r\n"))) ≡ K.Operator ∷ K.Word ∷ K.Word ∷ []
-unfolding alphabetic isContinuation continuations continued firstBits with_bits characterLength codePoint character isWhitespace isAlphabetic isNumeric isMark isPunctuationConnector isAlphanumeric isWordCharacter isPlaceholderNameCharacter connector mark numeric within inRanges inClass run whiteSpace tillLineEnding throughBlockEnd getCommentToken decimalNumber signedDigits exponent scientificNotation unsigned getNumberToken getOpenParenToken getCloseParenToken numberFrom indexedKey indexedTaken getIndexedPlaceholderToken placeholderName identTaken getIdentNamedPlaceholderToken throughBrace bracedText bracedTaken getBracedNamedPlaceholderToken hasEscape stringKey stringNamedTaken getStringNamedPlaceholderToken getPlaceholderToken takeTillEscaping closedBy hexTaken quotedTaken stringTaken getStringToken placeholderQuotedTaken placeholderStringTaken one spelled isSpelled typed capital blanks endOfWord count digit1 digit0 contains starts_with getTypeSpecifierToken getWhitespaceToken isOperator getOperatorToken getWordToken getAnyOtherChar joinPhrases newlinePhrases newlineAfterPhrases noIndentPhrases walk optional phraseEnd firstPhrase each plainTwoPhrases plainA plainB plainC plainD plainE plain_f plainG plainH plainI plainK plainL plainM plainN plainO plainP plainQ plainR plainS plainT plainU plainV plainW plainY plainOnePhrases same topLevelKind aliasLength getTopLevelReservedToken getNewlineAfterReservedToken getNewlineReservedToken getJoinToken getTopLevelReservedTokenNoIndent getPlainReservedToken mayBeReserved getReservedWordToken creatable alterableOrDroppable eachDropped topLevelPhrases takesTypeSpecifier topLevelOf afterBetween lastTopLevel remember remembered fromWord fromPlaceholder fromOperator fromReserved fromNumber fromCloseParen fromOpenParen fromString fromTypeSpecifier getNextToken nextPiece givenOut tokensFrom tokens compared comparedAll reading isGap withoutGaps generic kinds
+unfolding alphabetic isContinuation continuations continued firstBits withBits characterLength codePoint character isWhitespace isAlphabetic isNumeric isMark isPunctuationConnector isAlphanumeric isWordCharacter isPlaceholderNameCharacter connector mark numeric within inRanges inClass run whiteSpace tillLineEnding throughBlockEnd getCommentToken decimalNumber signedDigits exponent scientificNotation unsigned getNumberToken getOpenParenToken getCloseParenToken numberFrom indexedKey indexedTaken getIndexedPlaceholderToken placeholderName identTaken getIdentNamedPlaceholderToken throughBrace bracedText bracedTaken getBracedNamedPlaceholderToken hasEscape stringKey stringNamedTaken getStringNamedPlaceholderToken getPlaceholderToken takeTillEscaping closedBy hexTaken quotedTaken stringTaken getStringToken placeholderQuotedTaken placeholderStringTaken one spelled isSpelled typed capital blanks endOfWord count digit1 digit0 contains startsWith getTypeSpecifierToken getWhitespaceToken isOperator getOperatorToken getWordToken getAnyOtherChar joinPhrases newlinePhrases newlineAfterPhrases noIndentPhrases walk optional phraseEnd firstPhrase each plainTwoPhrases plainA plainB plainC plainD plainE plainF plainG plainH plainI plainK plainL plainM plainN plainO plainP plainQ plainR plainS plainT plainU plainV plainW plainY plainOnePhrases same topLevelKind aliasLength getTopLevelReservedToken getNewlineAfterReservedToken getNewlineReservedToken getJoinToken getTopLevelReservedTokenNoIndent getPlainReservedToken mayBeReserved getReservedWordToken creatable alterableOrDroppable eachDropped topLevelPhrases takesTypeSpecifier topLevelOf afterBetween lastTopLevel remember remembered fromWord fromPlaceholder fromOperator fromReserved fromNumber fromCloseParen fromOpenParen fromString fromTypeSpecifier getNextToken nextPiece givenOut tokensFrom tokens compared comparedAll reading isGap withoutGaps generic kinds
 hash-kinds = refl
 
 pub tight-hash-kinds : kinds (withoutGaps (reading generic (tight generic (bytes "#a\rb\r\n")))) ≡ K.Operator ∷ K.Word ∷ K.Word ∷ []
-unfolding alphabetic isContinuation continuations continued firstBits with_bits characterLength codePoint character isWhitespace isAlphabetic isNumeric isMark isPunctuationConnector isAlphanumeric isWordCharacter isPlaceholderNameCharacter connector mark numeric within inRanges inClass run whiteSpace tillLineEnding throughBlockEnd getCommentToken decimalNumber signedDigits exponent scientificNotation unsigned getNumberToken getOpenParenToken getCloseParenToken numberFrom indexedKey indexedTaken getIndexedPlaceholderToken placeholderName identTaken getIdentNamedPlaceholderToken throughBrace bracedText bracedTaken getBracedNamedPlaceholderToken hasEscape stringKey stringNamedTaken getStringNamedPlaceholderToken getPlaceholderToken takeTillEscaping closedBy hexTaken quotedTaken stringTaken getStringToken placeholderQuotedTaken placeholderStringTaken one spelled isSpelled typed capital blanks endOfWord count digit1 digit0 contains starts_with getTypeSpecifierToken getWhitespaceToken isOperator getOperatorToken getWordToken getAnyOtherChar joinPhrases newlinePhrases newlineAfterPhrases noIndentPhrases walk optional phraseEnd firstPhrase each plainTwoPhrases plainA plainB plainC plainD plainE plain_f plainG plainH plainI plainK plainL plainM plainN plainO plainP plainQ plainR plainS plainT plainU plainV plainW plainY plainOnePhrases same topLevelKind aliasLength getTopLevelReservedToken getNewlineAfterReservedToken getNewlineReservedToken getJoinToken getTopLevelReservedTokenNoIndent getPlainReservedToken mayBeReserved getReservedWordToken creatable alterableOrDroppable eachDropped topLevelPhrases takesTypeSpecifier topLevelOf afterBetween lastTopLevel remember remembered fromWord fromPlaceholder fromOperator fromReserved fromNumber fromCloseParen fromOpenParen fromString fromTypeSpecifier getNextToken nextPiece givenOut tokensFrom tokens T.isGap returns gapAfter tightFrom tight compared comparedAll reading isGap withoutGaps generic kinds
+unfolding alphabetic isContinuation continuations continued firstBits withBits characterLength codePoint character isWhitespace isAlphabetic isNumeric isMark isPunctuationConnector isAlphanumeric isWordCharacter isPlaceholderNameCharacter connector mark numeric within inRanges inClass run whiteSpace tillLineEnding throughBlockEnd getCommentToken decimalNumber signedDigits exponent scientificNotation unsigned getNumberToken getOpenParenToken getCloseParenToken numberFrom indexedKey indexedTaken getIndexedPlaceholderToken placeholderName identTaken getIdentNamedPlaceholderToken throughBrace bracedText bracedTaken getBracedNamedPlaceholderToken hasEscape stringKey stringNamedTaken getStringNamedPlaceholderToken getPlaceholderToken takeTillEscaping closedBy hexTaken quotedTaken stringTaken getStringToken placeholderQuotedTaken placeholderStringTaken one spelled isSpelled typed capital blanks endOfWord count digit1 digit0 contains startsWith getTypeSpecifierToken getWhitespaceToken isOperator getOperatorToken getWordToken getAnyOtherChar joinPhrases newlinePhrases newlineAfterPhrases noIndentPhrases walk optional phraseEnd firstPhrase each plainTwoPhrases plainA plainB plainC plainD plainE plainF plainG plainH plainI plainK plainL plainM plainN plainO plainP plainQ plainR plainS plainT plainU plainV plainW plainY plainOnePhrases same topLevelKind aliasLength getTopLevelReservedToken getNewlineAfterReservedToken getNewlineReservedToken getJoinToken getTopLevelReservedTokenNoIndent getPlainReservedToken mayBeReserved getReservedWordToken creatable alterableOrDroppable eachDropped topLevelPhrases takesTypeSpecifier topLevelOf afterBetween lastTopLevel remember remembered fromWord fromPlaceholder fromOperator fromReserved fromNumber fromCloseParen fromOpenParen fromString fromTypeSpecifier getNextToken nextPiece givenOut tokensFrom tokens T.isGap returns gapAfter tightFrom tight compared comparedAll reading isGap withoutGaps generic kinds
 tight-hash-kinds = refl

@@ -12,7 +12,7 @@ use borrow.Author.Tests.{eq-eqb, ne_eqb}
 use Rattle.recognisers.specs.declared.TokenKind.{TokenKind}
 use Rattle.recognisers.specs.declared.TokenKind.TheVariants as K
 use Rattle.recognisers.specs.Kinds.{isKind}
-use Rattle.recognisers.specs.Taking.{starts_with}
+use Rattle.recognisers.specs.Taking.{startsWith}
 use Rattle.tight.specs.declared.Gap.{Gap}
 use Rattle.tight.specs.declared.Gap.TheVariants.{LineFeed, Space, Return}
 use Rattle.tight.specs.declared.Place.{Place}
@@ -34,17 +34,17 @@ module _ (s : List ℕ) (i : ℕ) (at : Quiet s i) (h : i < length s) where
   feed-first e = sym (at.same ∙ rw (drop-cons s i 0 h, eq-eqb (get_or s i 0) 10 e))
 
   module _ (n : get_or s i 0 ≡ 10 → ⊥) where
-    module _ (e : get_or s i 0 ≡ 13) (r : Bool) (c : r ≡ starts_with 10 (drop (i + 1) s)) where
-      pub both_first : r ≡ true → false ≡ returns s
+    module _ (e : get_or s i 0 ≡ 13) (r : Bool) (c : r ≡ startsWith 10 (drop (i + 1) s)) where
+      pub both-first : r ≡ true → false ≡ returns s
       unfolding returns
-      both_first t =
-          let c' : r ≡ starts_with 10 (drop (suc i) s) = rw (add-one i) at c in
+      both-first t =
+          let c' : r ≡ startsWith 10 (drop (suc i) s) = rw (add-one i) at c in
           sym (at.same ∙ rw (drop-cons s i 0 h, ne_eqb (get_or s i 0) 10 n, eq-eqb (get_or s i 0) 13 e, ← c', t))
 
       pub return-first : r ≡ false → true ≡ returns s
       unfolding returns
       return-first t =
-          let c' : r ≡ starts_with 10 (drop (suc i) s) = rw (add-one i) at c in
+          let c' : r ≡ startsWith 10 (drop (suc i) s) = rw (add-one i) at c in
           sym (at.same ∙ rw (drop-cons s i 0 h, ne_eqb (get_or s i 0) 10 n, eq-eqb (get_or s i 0) 13 e, ← c', t))
 
     pub quiet-on : (get_or s i 0 ≡ 13 → ⊥) → Quiet s (i + 1)
@@ -58,9 +58,9 @@ quiet-end s i at h = sym (at.same ∙ rw (drop_of_length-le s h))
 -- ---- what a gap becomes
 
 module _ (kind : TokenKind) (gap : List ℕ) (k : Bool) (e : k ≡ isKind kind K.LineComment) where
-  pub after_line : k ≡ true → LineFeed ≡ gapAfter kind gap
+  pub after-line : k ≡ true → LineFeed ≡ gapAfter kind gap
   unfolding gapAfter
-  after_line t = rw (← e, t)
+  after-line t = rw (← e, t)
 
   module _ (f : k ≡ false) (r : Bool) (c : r ≡ returns gap) where
     pub after-return : r ≡ true → Return ≡ gapAfter kind gap

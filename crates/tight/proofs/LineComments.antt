@@ -11,11 +11,11 @@ use lib.Dec.{eqb}
 use borrow.Author.Tests.{eqb-true}
 use Rattle.characters.specs.Ranges.{within, inRanges}
 use Rattle.characters.specs.WhiteSpace.{whiteSpace}
-use Rattle.characters.specs.Character.{continuations, continued, firstBits, with_bits, codePoint}
+use Rattle.characters.specs.Character.{continuations, continued, firstBits, withBits, codePoint}
 use Rattle.characters.specs.Classes.{isWhitespace}
 use Rattle.recognisers.specs.declared.Taken.{Taken}
 use Rattle.recognisers.specs.declared.Taken.TheVariants.{Bytes, Fails}
-use Rattle.recognisers.specs.Taking.{more, starts_with}
+use Rattle.recognisers.specs.Taking.{more, startsWith}
 use Rattle.recognisers.specs.Comment.{tillLineEnding}
 use Rattle.recognisers.proofs.Spelling.{not-fails}
 use Rattle.tight.specs.Returning.{returns}
@@ -55,25 +55,25 @@ pub line-sim : {n : ℕ} {x x' : List ℕ} → Sim n x x' → Broken n x' → ti
 unfolding tillLineEnding
 line-sim nil b e = e
 line-sim (keep {n} {b} {x} s) (later r) e =
-    let i = inside (eqb b 10) (eqb b 13) (starts_with 10 x) (tillLineEnding x) e in
+    let i = inside (eqb b 10) (eqb b 13) (startsWith 10 x) (tillLineEnding x) e in
     rw (i.0, i.1, line-sim s r i.2) (ap Bytes (omega arith))
 line-sim (same s) r e = broken-now r
 line-sim (swap w p s) r e = broken-now r
 line-sim (lose w p s) r e = broken-now r
 
 pub newline-blank : (x : List ℕ) → isBlank (10 ∷ x) ≡ true
-unfolding isWhitespace inRanges within whiteSpace codePoint continuations continued firstBits with_bits
+unfolding isWhitespace inRanges within whiteSpace codePoint continuations continued firstBits withBits
 newline-blank x = refl
 
 pub return-blank : (x : List ℕ) → isBlank (13 ∷ x) ≡ true
-unfolding isWhitespace inRanges within whiteSpace codePoint continuations continued firstBits with_bits
+unfolding isWhitespace inRanges within whiteSpace codePoint continuations continued firstBits withBits
 return-blank x = refl
 
 pub line-end : (x : List ℕ) (n : ℕ) → tillLineEnding x ≡ Bytes n → (isNil (drop n x) || isBlank (drop n x)) ≡ true
 unfolding tillLineEnding
 line-end [] zero e = refl
 line-end [] (suc n) e = refl
-line-end (b ∷ x) (suc n) e = line-end x n (inside (eqb b 10) (eqb b 13) (starts_with 10 x) (tillLineEnding x) e).2
+line-end (b ∷ x) (suc n) e = line-end x n (inside (eqb b 10) (eqb b 13) (startsWith 10 x) (tillLineEnding x) e).2
 line-end (b ∷ x) zero e = go (eqb b 10) (eqb b 13) refl refl
   where
     at : (c : ℕ) → isBlank (c ∷ x) ≡ true → b ≡ c → isBlank (b ∷ x) ≡ true
@@ -97,7 +97,7 @@ refused Fails = true
 refused-is : (x : List ℕ) → refused (tillLineEnding x) ≡ returns x
 unfolding tillLineEnding returns
 refused-is [] = refl
-refused-is (b ∷ x) = go (eqb b 10) (eqb b 13) (starts_with 10 x) (tillLineEnding x) (returns x) (refused-is x)
+refused-is (b ∷ x) = go (eqb b 10) (eqb b 13) (startsWith 10 x) (tillLineEnding x) (returns x) (refused-is x)
   where
     go : (t u v : Bool) (o : Taken) (w : Bool) → refused o ≡ w → refused (cond t (Bytes 0) (cond u (cond v (Bytes 0) Fails) (more 1 o))) ≡ cond t false (cond u (not v) w)
     go true u v o w e = refl
@@ -117,15 +117,15 @@ return-line x e = go (tillLineEnding x) (refused-is x ∙ e)
     go (Bytes m) h = absurd (false≢true h)
 
 -- no such CR from the comment's text on, nor behind the comment
-pub line_quiet : (x : List ℕ) (n : ℕ) → tillLineEnding x ≡ Bytes n → returns x ≡ false
-line_quiet x n e = sym (refused-is x) ∙ ap refused e
+pub line-quiet : (x : List ℕ) (n : ℕ) → tillLineEnding x ≡ Bytes n → returns x ≡ false
+line-quiet x n e = sym (refused-is x) ∙ ap refused e
 
 pub line-end-quiet : (x : List ℕ) (n : ℕ) → tillLineEnding x ≡ Bytes n → returns (drop n x) ≡ false
 unfolding tillLineEnding returns
 line-end-quiet [] zero e = refl
 line-end-quiet [] (suc n) e = refl
-line-end-quiet (b ∷ x) zero e = line_quiet (b ∷ x) 0 e
-line-end-quiet (b ∷ x) (suc n) e = line-end-quiet x n (inside (eqb b 10) (eqb b 13) (starts_with 10 x) (tillLineEnding x) e).2
+line-end-quiet (b ∷ x) zero e = line-quiet (b ∷ x) 0 e
+line-end-quiet (b ∷ x) (suc n) e = line-end-quiet x n (inside (eqb b 10) (eqb b 13) (startsWith 10 x) (tillLineEnding x) e).2
 
 -- behind a line comment stand whitespace or the end, and no such CR comes first there, nor from the comment's text on
 pub record Lined (n : ℕ) (y : List ℕ) : Type 0 where
@@ -139,13 +139,13 @@ abbrev pub Returning : List ℕ → List ℕ → Type 0
 Returning x x' = returns x ≡ true → returns x' ≡ true
 
 -- bytes that are the same before rests of which it is kept, where the second is no LF
-pub returns-kept : (n : ℕ) (x y' : List ℕ) → starts_with 10 y' ≡ false → Returning (drop n x) y' → Returning x (take n x ++ y')
-unfolding returns starts_with
+pub returns-kept : (n : ℕ) (x y' : List ℕ) → startsWith 10 y' ≡ false → Returning (drop n x) y' → Returning x (take n x ++ y')
+unfolding returns startsWith
 returns-kept zero x y' f k h = k h
 returns-kept (suc n) [] y' f k h = absurd (false≢true h)
 returns-kept (suc n) (b ∷ x) y' f k h = go (eqb b 10) (eqb b 13) h (returns-kept n x y' f k)
   where
-    next : (n : ℕ) (x : List ℕ) → starts_with 10 x ≡ false → starts_with 10 (take n x ++ y') ≡ false
+    next : (n : ℕ) (x : List ℕ) → startsWith 10 x ≡ false → startsWith 10 (take n x ++ y') ≡ false
     next zero x e = f
     next (suc n) [] e = f
     next (suc n) (c ∷ x) e = e
@@ -154,51 +154,51 @@ returns-kept (suc n) (b ∷ x) y' f k h = go (eqb b 10) (eqb b 13) h (returns-ke
     turn true e = sym e
     turn false e = refl
 
-    go : (t u : Bool) → cond t false (cond u (not (starts_with 10 x)) (returns x)) ≡ true → Returning x (take n x ++ y')
-        → cond t false (cond u (not (starts_with 10 (take n x ++ y'))) (returns (take n x ++ y'))) ≡ true
+    go : (t u : Bool) → cond t false (cond u (not (startsWith 10 x)) (returns x)) ≡ true → Returning x (take n x ++ y')
+        → cond t false (cond u (not (startsWith 10 (take n x ++ y'))) (returns (take n x ++ y'))) ≡ true
     go true u e i = e
-    go false true e i = rw (next n x (turn (starts_with 10 x) e))
+    go false true e i = rw (next n x (turn (startsWith 10 x) e))
     go false false e i = i e
 
 -- a gap's bytes that do not return, before a rest
 pub returns-past : (n : ℕ) (x : List ℕ) → returns (take n x) ≡ false → returns x ≡ true → returns (drop n x) ≡ true
-unfolding returns starts_with
+unfolding returns startsWith
 returns-past zero x g h = h
 returns-past (suc n) [] g h = h
 returns-past (suc n) (b ∷ x) g h = go (eqb b 10) (eqb b 13) g h (returns-past n x)
   where
-    next : (n : ℕ) (x : List ℕ) → not (starts_with 10 (take n x)) ≡ false → not (starts_with 10 x) ≡ true → ⊥
+    next : (n : ℕ) (x : List ℕ) → not (startsWith 10 (take n x)) ≡ false → not (startsWith 10 x) ≡ true → ⊥
     next zero x e f = false≢true (sym e)
     next (suc n) [] e f = false≢true (sym e)
     next (suc n) (c ∷ x) e f = false≢true (sym e ∙ f)
 
-    go : (t u : Bool) → cond t false (cond u (not (starts_with 10 (take n x))) (returns (take n x))) ≡ false → cond t false (cond u (not (starts_with 10 x)) (returns x)) ≡ true
+    go : (t u : Bool) → cond t false (cond u (not (startsWith 10 (take n x))) (returns (take n x))) ≡ false → cond t false (cond u (not (startsWith 10 x)) (returns x)) ≡ true
         → (returns (take n x) ≡ false → returns x ≡ true → returns (drop n x) ≡ true) → returns (drop n x) ≡ true
     go true u e f i = absurd (false≢true f)
     go false true e f i = absurd (next n x e f)
     go false false e f i = i e f
 
 -- the bytes up to what is no LF
-pub returns-part : (n : ℕ) (x : List ℕ) → starts_with 10 (drop n x) ≡ false → returns x ≡ false → returns (take n x) ≡ false
-unfolding returns starts_with
+pub returns-part : (n : ℕ) (x : List ℕ) → startsWith 10 (drop n x) ≡ false → returns x ≡ false → returns (take n x) ≡ false
+unfolding returns startsWith
 returns-part zero x f h = refl
 returns-part (suc n) [] f h = refl
 returns-part (suc n) (b ∷ x) f h = go (eqb b 10) (eqb b 13) h (returns-part n x f)
   where
-    next : (n : ℕ) (x : List ℕ) → starts_with 10 (drop n x) ≡ false → not (starts_with 10 x) ≡ false → not (starts_with 10 (take n x)) ≡ false
+    next : (n : ℕ) (x : List ℕ) → startsWith 10 (drop n x) ≡ false → not (startsWith 10 x) ≡ false → not (startsWith 10 (take n x)) ≡ false
     next zero x f e = absurd (false≢true (sym e ∙ ap not f))
     next (suc n) [] f e = e
     next (suc n) (c ∷ x) f e = e
 
-    go : (t u : Bool) → cond t false (cond u (not (starts_with 10 x)) (returns x)) ≡ false → (returns x ≡ false → returns (take n x) ≡ false)
-        → cond t false (cond u (not (starts_with 10 (take n x))) (returns (take n x))) ≡ false
+    go : (t u : Bool) → cond t false (cond u (not (startsWith 10 x)) (returns x)) ≡ false → (returns x ≡ false → returns (take n x) ≡ false)
+        → cond t false (cond u (not (startsWith 10 (take n x))) (returns (take n x))) ≡ false
     go true u e i = refl
     go false true e i = next n x f e
     go false false e i = i e
 
 -- where no whitespace stands
-pub no-newline : (z : List ℕ) → isBlank z ≡ false → starts_with 10 z ≡ false
-unfolding starts_with
+pub no-newline : (z : List ℕ) → isBlank z ≡ false → startsWith 10 z ≡ false
+unfolding startsWith
 no-newline [] h = refl
 no-newline (b ∷ x) h = go (eqb b 10) refl
   where
@@ -210,7 +210,7 @@ pub returns-head : (b : ℕ) (x : List ℕ) → isBlank (b ∷ x) ≡ false → 
 unfolding returns
 returns-head b x h = go (eqb b 10) (eqb b 13) refl refl
   where
-    go : (t u : Bool) → eqb b 10 ≡ t → eqb b 13 ≡ u → cond t false (cond u (not (starts_with 10 x)) (returns x)) ≡ returns x
+    go : (t u : Bool) → eqb b 10 ≡ t → eqb b 13 ≡ u → cond t false (cond u (not (startsWith 10 x)) (returns x)) ≡ returns x
     go true u e f = absurd (false≢true (sym h ∙ rw (eqb-true b 10 e) (newline-blank x)))
     go false true e f = absurd (false≢true (sym h ∙ rw (eqb-true b 13 f) (return-blank x)))
     go false false e f = refl

@@ -65,14 +65,14 @@ placed-compared : (settings : Settings) (s : List ℕ) (at : ℕ) (p : Piece) �
 unfolding compared
 placed-compared settings s at p = rw (placed-meaning s at p.key)
 
-next_place : (at b : ℕ) (r s : List ℕ) → drop at s ≡ b ∷ r → drop (suc at) s ≡ r
-next_place at b r s e = ap (λ (k : ℕ). drop k s) (sym (add-one at)) ∙ sym (drop-drop 1 at s) ∙ ap (drop 1) e
+next-place : (at b : ℕ) (r s : List ℕ) → drop at s ≡ b ∷ r → drop (suc at) s ≡ r
+next-place at b r s e = ap (λ (k : ℕ). drop k s) (sym (add-one at)) ∙ sym (drop-drop 1 at s) ∙ ap (drop 1) e
 
-from_place : (settings : Settings) (s : List ℕ) (memory : Memory) (at passed : ℕ) (r : List ℕ) → drop at s ≡ r → comparedAll s (tokensFrom settings memory at passed r) ≡ readFrom settings memory passed r
+from-place : (settings : Settings) (s : List ℕ) (memory : Memory) (at passed : ℕ) (r : List ℕ) → drop at s ≡ r → comparedAll s (tokensFrom settings memory at passed r) ≡ readFrom settings memory passed r
 unfolding comparedAll tokensFrom readFrom
-from_place settings s memory at passed [] e = refl
-from_place settings s memory at (suc passed) (b ∷ r) e = from_place settings s memory (suc at) passed r (next_place at b r s e)
-from_place settings s memory at zero (b ∷ r) e = go (nextPiece settings memory (b ∷ r)) refl (λ m k. from_place settings s m (suc at) k r (next_place at b r s e))
+from-place settings s memory at passed [] e = refl
+from-place settings s memory at (suc passed) (b ∷ r) e = from-place settings s memory (suc at) passed r (next-place at b r s e)
+from-place settings s memory at zero (b ∷ r) e = go (nextPiece settings memory (b ∷ r)) refl (λ m k. from-place settings s m (suc at) k r (next-place at b r s e))
   where
     go : (q : Recognised) → nextPiece settings memory (b ∷ r) ≡ q → ((m : Memory) (k : ℕ) → comparedAll s (tokensFrom settings m (suc at) k r) ≡ readFrom settings m k r)
         → comparedAll s (tokensFrom settings memory at zero (b ∷ r)) ≡ readFrom settings memory zero (b ∷ r)
@@ -83,7 +83,7 @@ from_place settings s memory at zero (b ∷ r) e = go (nextPiece settings memory
 
 pub reading-is : (settings : Settings) (s : List ℕ) → reading settings s ≡ readFrom settings start 0 s
 unfolding reading tokens
-reading-is settings s = from_place settings s start 0 0 s refl
+reading-is settings s = from-place settings s start 0 0 s refl
 
 -- ---- one token, or one gap, and the rest
 
@@ -93,14 +93,14 @@ read-pass settings memory zero s = refl
 read-pass settings memory (suc n) [] = refl
 read-pass settings memory (suc n) (b ∷ s) = read-pass settings memory n s
 
-pub read_none : (settings : Settings) (memory : Memory) → readFrom settings memory 0 [] ≡ []
+pub read-none : (settings : Settings) (memory : Memory) → readFrom settings memory 0 [] ≡ []
 unfolding readFrom
-read_none settings memory = refl
+read-none settings memory = refl
 
-pub read_one : (settings : Settings) (memory : Memory) (b : ℕ) (x : List ℕ) (p : Piece) (n : ℕ) → nextPiece settings memory (b ∷ x) ≡ R.Token p → p.len ≡ suc n
+pub read-one : (settings : Settings) (memory : Memory) (b : ℕ) (x : List ℕ) (p : Piece) (n : ℕ) → nextPiece settings memory (b ∷ x) ≡ R.Token p → p.len ≡ suc n
     → readFrom settings memory 0 (b ∷ x) ≡ pieceCompared settings (b ∷ x) p ∷ readFrom settings (past memory p (b ∷ x)) 0 (drop n x)
 unfolding readFrom
-read_one settings memory b x p n e l =
+read-one settings memory b x p n e l =
     let k : pred p.len ≡ n = ap pred l in
     rw (readFrom, e) (ap (λ (cs : List Compared). pieceCompared settings (b ∷ x) p ∷ cs) (rw k (read-pass settings (past memory p (b ∷ x)) n x)))
 
@@ -136,7 +136,7 @@ unfolding givenOut
 read-gap settings memory b x e =
     let n = run isWhitespace (continued (continuations b) x) x in
     let k : run isWhitespace 0 (b ∷ x) ≡ suc n = run-blank b x e in
-    read_one settings memory b x (piece K.Whitespace (suc n) None) n (gap-piece settings memory b x n k) refl
+    read-one settings memory b x (piece K.Whitespace (suc n) None) n (gap-piece settings memory b x n k) refl
     ∙ rw (gap-memory memory (take (suc n) (b ∷ x)) (suc n), k)
 
 -- ---- the tokens, each with what is told of the gap behind it

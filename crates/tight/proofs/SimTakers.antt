@@ -18,7 +18,7 @@ use Rattle.recognisers.specs.Taking.{Taker, or, done, one, spelled, typed, blank
 use Rattle.recognisers.specs.Taking as T
 use Rattle.recognisers.proofs.Spelling.{more-zero, more-more}
 use Rattle.characters.proofs.ClassesApart.{white-no-word, zero-no-word}
-use Rattle.tight.proofs.Whitespace.{isBlank, none-blank, blankByte, blank-whole, not_byte, range-quiet}
+use Rattle.tight.proofs.Whitespace.{isBlank, none-blank, blankByte, blank-whole, not-byte, range-quiet}
 use Rattle.tight.proofs.Sim.{Conts, last, more, blank, Separator, space, newline, return, Ends, at-end, at-separator, Sim, nil, keep, same, swap, lose, Blankish, ended, starts, blankish, separator-blank, separator-ish, ends-ish, class-sim, blank-sim}
 
 -- both fail, or both take something; and where the first takes n bytes, so does the second
@@ -30,12 +30,12 @@ pub data Same : ℕ → Taken → Taken → Type 0 where
 abbrev pub Law : Taker → Type 0
 Law part = (n : ℕ) (x x' : List ℕ) → Sim n x x' → Same n (part x) (part x')
 
-pub same_refl : (n : ℕ) (t : Taken) → Same n t t
-same_refl n (Bytes m) = equal
-same_refl n Fails = neither
+pub same-refl : (n : ℕ) (t : Taken) → Same n t t
+same-refl n (Bytes m) = equal
+same-refl n Fails = neither
 
 pub same-eq : (n : ℕ) {t t' : Taken} → t ≡ t' → Same n t t'
-same-eq n {t} e = subst (λ (u : Taken). Same n t u) e (same_refl n t)
+same-eq n {t} e = subst (λ (u : Taken). Same n t u) e (same-refl n t)
 
 -- one byte more on both sides; on both sides, where none is kept; on the left side
 pub both-more : {n : ℕ} {t t' : Taken} → Same n t t' → Same (suc n) (T.more 1 t) (T.more 1 t')
@@ -43,27 +43,27 @@ both-more neither = neither
 both-more equal = equal
 both-more {n} (other {m} h) = other {n = suc n} (λ (e : 1 + m ≡ suc n). h (omega arith))
 
-pub free_more : {n : ℕ} {t t' : Taken} → Same n t t' → Same 0 (T.more 1 t) (T.more 1 t')
-free_more neither = neither
-free_more equal = equal
-free_more (other {m} h) = other {n = 0} (λ (e : 1 + m ≡ 0). omega arith)
+pub free-more : {n : ℕ} {t t' : Taken} → Same n t t' → Same 0 (T.more 1 t) (T.more 1 t')
+free-more neither = neither
+free-more equal = equal
+free-more (other {m} h) = other {n = 0} (λ (e : 1 + m ≡ 0). omega arith)
 
 pub left-more : {n : ℕ} {t t' : Taken} → Same n t t' → Same 0 (T.more 1 t) t'
 left-more neither = neither
 left-more (equal {m}) = other {n = 0} (λ (e : 1 + m ≡ 0). omega arith)
 left-more (other {m} h) = other {n = 0} (λ (e : 1 + m ≡ 0). omega arith)
 
-pub cond_same : {n : ℕ} (t : Bool) {o o' p p' : Taken} → Same n o o' → Same n p p' → Same n (cond t o p) (cond t o' p')
-cond_same true s r = s
-cond_same false s r = r
+pub cond-same : {n : ℕ} (t : Bool) {o o' p p' : Taken} → Same n o o' → Same n p p' → Same n (cond t o p) (cond t o' p')
+cond-same true s r = s
+cond-same false s r = r
 
-pub or_same : {n : ℕ} {o o' p p' : Taken} → Same n o o' → Same n p p' → Same n (or o p) (or o' p')
-or_same neither r = r
-or_same equal r = equal
-or_same (other h) r = other h
+pub or-same : {n : ℕ} {o o' p p' : Taken} → Same n o o' → Same n p p' → Same n (or o p) (or o' p')
+or-same neither r = r
+or-same equal r = equal
+or-same (other h) r = other h
 
 pub or-law : (first second : Taker) → Law first → Law second → Law (λ x. or (first x) (second x))
-or-law first second l k n x x' s = or_same (l n x x' s) (k n x x' s)
+or-law first second l k n x x' s = or-same (l n x x' s) (k n x x' s)
 
 pub done-law : Law done
 done-law n x x' s = equal
@@ -83,8 +83,8 @@ one-law test quiet then l n x x' s = go s
 
     go : {n : ℕ} {x x' : List ℕ} → Sim n x x' → Same n (one test then x) (one test then x')
     go nil = neither
-    go (keep {n} {b} {x} {x'} s) = cond_same (test b) (both-more (l n x x' s)) neither
-    go (same {n} {b} {x} {x'} s) = cond_same (test b) (free_more (l n x x' s)) neither
+    go (keep {n} {b} {x} {x'} s) = cond-same (test b) (both-more (l n x x' s)) neither
+    go (same {n} {b} {x} {x'} s) = cond-same (test b) (free-more (l n x x' s)) neither
     go (swap {s = c} {y'} w q s) = rw (none (blankish w), none (separator-ish y' q)) neither
     go (lose w q s) = rw (none (blankish w), none (ends-ish q)) neither
 
@@ -106,7 +106,7 @@ unfolding typed
 typed-leaves b h = refl
 
 pub form-quiet : (form : ℕ → ℕ) → Leaves form → (w : ℕ) → blankByte w ≡ false → Quiet (λ b. eqb (form b) w)
-form-quiet form k w h b g = rw (k b g) (not_byte w b h g)
+form-quiet form k w h b g = rw (k b g) (not-byte w b h g)
 
 pub spelled-law : (form : ℕ → ℕ) → Leaves form → (word : List ℕ) → allQuiet word ≡ true → (then : Taker) → Law then → Law (spelled form word then)
 unfolding spelled
@@ -120,7 +120,7 @@ unfolding contains
 contains-quiet [] a b h = refl
 contains-quiet (e ∷ among) a b h =
     let k = quiet-both (blankByte e) (allQuiet among) a in
-    rw (not_byte e b k.0 h) (contains-quiet among k.1 b h)
+    rw (not-byte e b k.0 h) (contains-quiet among k.1 b h)
 
 -- ---- digits
 
@@ -141,9 +141,9 @@ many-law test quiet then l n x x' s = go s
     none (starts {b} c g w) = rw (quiet b g)
 
     go : {n : ℕ} {x x' : List ℕ} → Sim n x x' → Same n (many test then x) (many test then x')
-    go {n} nil = same_refl n (then [])
-    go (keep {n} {b} {x} {x'} s) = cond_same (test b) (both-more (go s)) (l (suc n) (b ∷ x) (b ∷ x') (keep s))
-    go (same {n} {b} {x} {x'} s) = cond_same (test b) (free_more (go s)) (l 0 (b ∷ x) (b ∷ x') (same s))
+    go {n} nil = same-refl n (then [])
+    go (keep {n} {b} {x} {x'} s) = cond-same (test b) (both-more (go s)) (l (suc n) (b ∷ x) (b ∷ x') (keep s))
+    go (same {n} {b} {x} {x'} s) = cond-same (test b) (free-more (go s)) (l 0 (b ∷ x) (b ∷ x') (same s))
     go (swap {s = c} {x} {y'} w q s) = rw (none (blankish w), none (separator-ish y' q)) (l 0 x (c ∷ y') (swap w q s))
     go (lose {x} {x'} w q s) = rw (none (blankish w), none (ends-ish q)) (l 0 x x' (lose w q s))
 
@@ -181,7 +181,7 @@ digit1-law then l n x x' s =
 
 pub end-of-word-law : Law endOfWord
 unfolding endOfWord
-end-of-word-law n x x' s = rw (class-sim isWordCharacter zero-no-word white-no-word s) (same_refl n _)
+end-of-word-law n x x' s = rw (class-sim isWordCharacter zero-no-word white-no-word s) (same-refl n _)
 
 -- ---- whitespace and what follows it
 
@@ -244,12 +244,12 @@ module _ (then : Taker) where
     eat-law zero {n} nil = l n [] [] nil
     eat-law (suc k) nil = neither
     eat-law zero (keep {n} {b} {x} {x'} s) =
-        rw (← blank-sim b s) (cond_same (isBlank (b ∷ x)) (both-more (eat-law (continuations b) s)) (l (suc n) (b ∷ x) (b ∷ x') (keep s)))
-    eat-law (suc k) (keep {b} s) = cond_same (isContinuation b) (both-more (eat-law k s)) neither
+        rw (← blank-sim b s) (cond-same (isBlank (b ∷ x)) (both-more (eat-law (continuations b) s)) (l (suc n) (b ∷ x) (b ∷ x') (keep s)))
+    eat-law (suc k) (keep {b} s) = cond-same (isContinuation b) (both-more (eat-law k s)) neither
     eat-law zero (same {n} {b} {x} {x'} s) =
-        rw (← blank-sim b s) (cond_same (isBlank (b ∷ x)) (free_more (eat-law (continuations b) s)) (l 0 (b ∷ x) (b ∷ x') (same s)))
-    eat-law (suc k) (same {b} s) = cond_same (isContinuation b) (free_more (eat-law k s)) neither
-    eat-law zero (swap {n} {s = c} {y'} (blank w r) p s) = rw (w, eat-separator y' p) (free_more (eat-conts n r (eat-law zero s)).1)
+        rw (← blank-sim b s) (cond-same (isBlank (b ∷ x)) (free-more (eat-law (continuations b) s)) (l 0 (b ∷ x) (b ∷ x') (same s)))
+    eat-law (suc k) (same {b} s) = cond-same (isContinuation b) (free-more (eat-law k s)) neither
+    eat-law zero (swap {n} {s = c} {y'} (blank w r) p s) = rw (w, eat-separator y' p) (free-more (eat-conts n r (eat-law zero s)).1)
     eat-law (suc k) (swap {y'} w p s) = rw (eat-none k (blankish w), eat-none k (separator-ish y' p)) neither
     eat-law zero (lose {n} (blank w r) p s) = rw w (left-more (eat-conts n r (eat-law zero s)).1)
     eat-law (suc k) (lose w p s) = rw (eat-none k (blankish w), eat-none k (ends-ish p)) neither
@@ -267,8 +267,8 @@ module _ (then : Taker) where
         ends (at-separator {x} q) r = rw (separator-blank x q) r
 
         go : {n : ℕ} {x x' : List ℕ} → Sim n x x' → Same n (cond (isBlank x) (eat 0 x) Fails) (cond (isBlank x') (eat 0 x') Fails)
-        go {n} nil = same_refl n _
-        go (keep {b} {x} s) = rw (← blank-sim b s) (cond_same (isBlank (b ∷ x)) (eat-law 0 (keep s)) neither)
-        go (same {b} {x} s) = rw (← blank-sim b s) (cond_same (isBlank (b ∷ x)) (eat-law 0 (same s)) neither)
+        go {n} nil = same-refl n _
+        go (keep {b} {x} s) = rw (← blank-sim b s) (cond-same (isBlank (b ∷ x)) (eat-law 0 (keep s)) neither)
+        go (same {b} {x} s) = rw (← blank-sim b s) (cond-same (isBlank (b ∷ x)) (eat-law 0 (same s)) neither)
         go (swap {y'} (blank w r) q s) = rw (w, separator-blank y' q) (eat-law 0 (swap (blank w r) q s))
         go (lose (blank w r) q s) = rw w (ends q (eat-law 0 (lose (blank w r) q s)))

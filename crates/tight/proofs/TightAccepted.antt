@@ -34,7 +34,7 @@ use Rattle.tight.specs.TightText.{tight}
 use Rattle.tight.proofs.TightShort.{tight-short}
 use Rattle.tight.proofs.Whitespace.{isBlank}
 use Rattle.tight.proofs.Sim.{Separator, space, newline, return}
-use Rattle.tight.proofs.ReadingItems.{past, readFrom, reading-is, read_none, afterGap, Mark, none, plain, returning, items}
+use Rattle.tight.proofs.ReadingItems.{past, readFrom, reading-is, read-none, afterGap, Mark, none, plain, returning, items}
 use Rattle.tight.proofs.GapRuns.{each-rest, gap-of}
 use Rattle.tight.proofs.TightReading.{found, mark, items-gap, joint, render, render-one, separates}
 use Rattle.tight.proofs.TightByItems.{tight-is}
@@ -58,7 +58,7 @@ module _ (settings : Settings) where
 
   formed-nil : Formed []
   unfolding items render
-  formed-nil memory h w = rw (read_none settings memory) end-formed
+  formed-nil memory h w = rw (read-none settings memory) end-formed
 
   formed-cons : (b : ℕ) (x : List ℕ) → ((k : ℕ) → Formed (drop k x)) → Formed (b ∷ x)
   formed-cons b x ih memory h w =

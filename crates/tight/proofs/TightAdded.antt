@@ -11,7 +11,7 @@ use mir.Syntax.{w64}
 use mir.Val.{Fits}
 use Rattle.tokenizer.specs.declared.Token.{Token}
 use Rattle.tokenizer.specs.Values.{value}
-use Rattle.calls.proofs.Storing.{both-put, back, part_length}
+use Rattle.calls.proofs.Storing.{both-put, back, part-length}
 use Rattle.tight.specs.declared.Gap.{Gap}
 use Rattle.tight.specs.declared.Gap.TheVariants.{Nothing, LineFeed, Space, Return}
 use Rattle.tight.specs.declared.Place.TheVariants.{Behind}
@@ -53,7 +53,7 @@ module _ (s : List ℕ) (lead : Gap) (t : Token) where
     where
       go : (b : Bool) → isGap t ≡ b → length (added s lead t) ≡ addedLength lead t
       go true e = rw e
-      go false e = rw (e, length-append, part_length t.start t.len s h)
+      go false e = rw (e, length-append, part-length t.start t.len s h)
 
 -- the lead past a token is no longer than what is read of it
 pub past-reach : (s : List ℕ) (spacing : Spacing) (t : Token) (n i j : ℕ) → n + length (gapBytes spacing.lead) ≤ i → i + t.len ≡ j → i < j
@@ -78,8 +78,8 @@ module _ (gap : Gap) (output : List ℕ) (at : ℕ) (h : at + length (gapBytes g
   return-room e = let k : at + length (gapBytes Return) ≤ length output = rw e at h in omega arith
 
 module _ (gap : Gap) (output : List ℕ) (at : ℕ) where
-  pub nothing_put : gap ≡ Nothing → output ≡ sets output at (gapBytes gap)
-  nothing_put e = rw e
+  pub nothing-put : gap ≡ Nothing → output ≡ sets output at (gapBytes gap)
+  nothing-put e = rw e
 
   pub line-put : gap ≡ LineFeed → set output at 10 ≡ sets output at (gapBytes gap)
   line-put e = rw e

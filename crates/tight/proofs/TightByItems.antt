@@ -64,10 +64,10 @@ module _ (s : List ℕ) (t : Token) (ts : List Token) (r : Rendered s ts) where
 rendered : (s : List ℕ) (ts : List Token) → Rendered s ts
 unfolding tightFrom comparedAll items render
 rendered s [] = record { behind = λ kind. refl; past-gap = λ kind gap. at-end kind gap; first = refl }
-rendered s (t ∷ ts) = rendered-one s t ts (rendered s ts) (T.isGap t) refl (gap_is t)
+rendered s (t ∷ ts) = rendered-one s t ts (rendered s ts) (T.isGap t) refl (gap-is t)
   where
-    gap_is : (t : Token) → isGap (compared s t) ≡ T.isGap t
-    gap_is t = unfold isGap in unfold compared in unfold T.isGap in refl
+    gap-is : (t : Token) → isGap (compared s t) ≡ T.isGap t
+    gap-is t = unfold isGap in unfold compared in unfold T.isGap in refl
 
 pub tight-is : (settings : Settings) (s : List ℕ) → tight settings s ≡ render (items (reading settings s))
 unfolding tight reading

@@ -18,7 +18,7 @@ use Rattle.recognisers.specs.declared.Recognised.TheVariants as R
 use Rattle.recognisers.specs.declared.TokenKind.{TokenKind}
 use Rattle.recognisers.specs.declared.TokenKind.TheVariants as K
 use Rattle.recognisers.specs.Kinds.{isKind}
-use Rattle.recognisers.specs.Taking.{starts_with}
+use Rattle.recognisers.specs.Taking.{startsWith}
 use Rattle.recognisers.proofs.PieceSizes.{KeyFits, Sized, Sound}
 use Rattle.tokenizer.specs.declared.Memory.{Memory}
 use Rattle.calls.specs.declared.Settings.{Settings}
@@ -34,9 +34,9 @@ use Rattle.tight.specs.Agree.{meaning, onlyGaps}
 use Rattle.tight.proofs.Whitespace.{isBlank, none-blank}
 use Rattle.tight.proofs.Sim.{Separator, space, newline, return, at-end, Sim, nil, keep, same, swap, lose, blank, blank-sim, separator-blank, take-sim}
 use Rattle.tight.proofs.LineComments.{isNil, Broken, at-nil, at-newline, later, Returning, returns-kept, returns-past, no-newline, returns-head}
-use Rattle.tight.proofs.SimRecognisers.{part_of, byte_of}
+use Rattle.tight.proofs.SimRecognisers.{part-of, byte-of}
 use Rattle.tight.proofs.SimPieces.{piece-sim, told}
-use Rattle.tight.proofs.ReadingItems.{pieceCompared, past, readFrom, read_none, read_one, afterGap, run-text, read-gap, Mark, none, plain, returning, Item, item, sortAfter, markPast, gapNext, items, is-gap, given-line, compared-no-gap}
+use Rattle.tight.proofs.ReadingItems.{pieceCompared, past, readFrom, read-none, read-one, afterGap, run-text, read-gap, Mark, none, plain, returning, Item, item, sortAfter, markPast, gapNext, items, is-gap, given-line, compared-no-gap}
 use Rattle.tight.proofs.GapRuns.{each-rest, gap-of}
 
 -- ---- one token of a reading
@@ -62,40 +62,40 @@ found settings memory b x = go (nextPiece settings memory (b ∷ x)) refl (piece
 
 pub only-gaps : (settings : Settings) (memory : Memory) (z : List ℕ) → isBlank z ≡ false → onlyGaps (readFrom settings memory 0 z) ≡ isNil z
 unfolding onlyGaps
-only-gaps settings memory [] h = rw (read_none settings memory)
+only-gaps settings memory [] h = rw (read-none settings memory)
 only-gaps settings memory (b ∷ x) h =
     let f = found settings memory b x in
-    rw (read_one settings memory b x f.p f.n f.is f.long, compared-no-gap settings memory b x f.p h f.is)
+    rw (read-one settings memory b x f.p f.n f.is f.long, compared-no-gap settings memory b x f.p h f.is)
 
 -- of a gap of this sort, with the end behind it or a token
 abbrev pub markEnd : Bool → Bool → Mark
 markEnd sort end = cond sort returning (cond end none plain)
 
-abbrev pub gap_of : List ℕ → List ℕ
-gap_of y = take (run isWhitespace 0 y) y
+abbrev pub gapOf : List ℕ → List ℕ
+gapOf y = take (run isWhitespace 0 y) y
 
 -- of the bytes behind a token of this kind: what is told of a gap there
 unfoldable pub mark : TokenKind → List ℕ → Mark
-mark kind y = cond (isBlank y) (markEnd (sortAfter kind (gap_of y)) (isNil (afterGap y))) none
+mark kind y = cond (isBlank y) (markEnd (sortAfter kind (gapOf y)) (isNil (afterGap y))) none
 
-past_next : (settings : Settings) (memory : Memory) (kind : TokenKind) (sort : Bool) (z : List ℕ) → isBlank z ≡ false → markPast kind sort (readFrom settings memory 0 z) ≡ markEnd sort (isNil z)
-past_next settings memory kind sort [] h = rw (read_none settings memory)
-past_next settings memory kind sort (b ∷ x) h =
+past-next : (settings : Settings) (memory : Memory) (kind : TokenKind) (sort : Bool) (z : List ℕ) → isBlank z ≡ false → markPast kind sort (readFrom settings memory 0 z) ≡ markEnd sort (isNil z)
+past-next settings memory kind sort [] h = rw (read-none settings memory)
+past-next settings memory kind sort (b ∷ x) h =
     let f = found settings memory b x in
-    rw (read_one settings memory b x f.p f.n f.is f.long, compared-no-gap settings memory b x f.p h f.is)
+    rw (read-one settings memory b x f.p f.n f.is f.long, compared-no-gap settings memory b x f.p h f.is)
 
 gap-next : (settings : Settings) (memory : Memory) (kind : TokenKind) (y : List ℕ) → gapNext kind (readFrom settings memory 0 y) ≡ mark kind y
 unfolding mark
-gap-next settings memory kind [] = rw (read_none settings memory, none-blank)
+gap-next settings memory kind [] = rw (read-none settings memory, none-blank)
 gap-next settings memory kind (b ∷ x) = go (isBlank (b ∷ x)) refl
   where
-    go : (t : Bool) → isBlank (b ∷ x) ≡ t → gapNext kind (readFrom settings memory 0 (b ∷ x)) ≡ cond t (markEnd (sortAfter kind (gap_of (b ∷ x))) (isNil (afterGap (b ∷ x)))) none
+    go : (t : Bool) → isBlank (b ∷ x) ≡ t → gapNext kind (readFrom settings memory 0 (b ∷ x)) ≡ cond t (markEnd (sortAfter kind (gapOf (b ∷ x))) (isNil (afterGap (b ∷ x)))) none
     go true e =
         rw (read-gap settings memory b x e, is-gap (run isWhitespace 0 (b ∷ x)) (b ∷ x))
-        (past_next settings memory kind (sortAfter kind (gap_of (b ∷ x))) (afterGap (b ∷ x)) (gap-of (b ∷ x)).ended)
+        (past-next settings memory kind (sortAfter kind (gapOf (b ∷ x))) (afterGap (b ∷ x)) (gap-of (b ∷ x)).ended)
     go false e =
         let f = found settings memory b x in
-        rw (read_one settings memory b x f.p f.n f.is f.long, compared-no-gap settings memory b x f.p e f.is)
+        rw (read-one settings memory b x f.p f.n f.is f.long, compared-no-gap settings memory b x f.p e f.is)
 
 pub items-gap : (settings : Settings) (memory : Memory) (y : List ℕ) → items (readFrom settings memory 0 y) ≡ items (readFrom settings memory 0 (afterGap y))
 unfolding items
@@ -111,7 +111,7 @@ pub items-one : (settings : Settings) (memory : Memory) (b : ℕ) (x : List ℕ)
     ≡ item (pieceCompared settings (b ∷ x) p) (mark (givenOut settings.joins p.kind) (drop n x)) ∷ items (readFrom settings (past memory p (b ∷ x)) 0 (afterGap (drop n x)))
 unfolding items
 items-one settings memory b x p n h e l =
-    rw (read_one settings memory b x p n e l, compared-no-gap settings memory b x p h e, gap-next settings (past memory p (b ∷ x)) (givenOut settings.joins p.kind) (drop n x), items-gap settings (past memory p (b ∷ x)) (drop n x))
+    rw (read-one settings memory b x p n e l, compared-no-gap settings memory b x p h e, gap-next settings (past memory p (b ∷ x)) (givenOut settings.joins p.kind) (drop n x), items-gap settings (past memory p (b ∷ x)) (drop n x))
 
 -- ---- the tight text of items
 
@@ -149,9 +149,9 @@ separates kind = go (isKind kind K.LineComment) refl
 
 meaning-of : (n : ℕ) (key : Key) (r r' : List ℕ) → KeyFits n key → take n r ≡ take n r' → meaning r' key ≡ meaning r key
 meaning-of n None r r' h e = refl
-meaning-of n (Named start len) r r' h e = rw (part_of start len n r h, part_of start len n r' h, e)
+meaning-of n (Named start len) r r' h e = rw (part-of start len n r h, part-of start len n r' h, e)
 meaning-of n (Escaped start len) r r' h e =
-    rw (part_of start len n r (omega arith), part_of start len n r' (omega arith), byte_of (start + len) n r h, byte_of (start + len) n r' h, e)
+    rw (part-of start len n r (omega arith), part-of start len n r' (omega arith), byte-of (start + len) n r h, byte-of (start + len) n r' h, e)
 meaning-of n (ZeroIndexed i) r r' h e = refl
 meaning-of n (OneIndexed i) r r' h e = refl
 
@@ -195,13 +195,13 @@ record Follow (kind : TokenKind) (y y' z' : List ℕ) : Type 0 where
   gap : mark kind y' ≡ mark kind y
   next : afterGap y' ≡ z'
   broken : isKind kind K.LineComment ≡ true → (isNil y || isBlank y) ≡ true → Broken 0 y'
-  line : isKind kind K.LineComment ≡ false → Returning y y' × (starts_with 10 y' ≡ false)
+  line : isKind kind K.LineComment ≡ false → Returning y y' × (startsWith 10 y' ≡ false)
 
 mark-none : (kind : TokenKind) (y : List ℕ) → isBlank y ≡ false → mark kind y ≡ none
 unfolding mark
 mark-none kind y h = rw h
 
-mark-is : (kind : TokenKind) (y : List ℕ) {t u : Bool} → isBlank y ≡ true → sortAfter kind (gap_of y) ≡ t → isNil (afterGap y) ≡ u → mark kind y ≡ markEnd t u
+mark-is : (kind : TokenKind) (y : List ℕ) {t u : Bool} → isBlank y ≡ true → sortAfter kind (gapOf y) ≡ t → isNil (afterGap y) ≡ u → mark kind y ≡ markEnd t u
 unfolding mark
 mark-is kind y h f g = rw (h, f, g)
 
@@ -209,8 +209,8 @@ is-nil : (x : List ℕ) → isNil x ≡ true → x ≡ []
 is-nil [] h = refl
 is-nil (b ∷ x) h = absurd (false≢true h)
 
-after_none : (z : List ℕ) → isBlank z ≡ false → afterGap z ≡ z
-after_none z h = rw (run-text z h)
+after-none : (z : List ℕ) → isBlank z ≡ false → afterGap z ≡ z
+after-none z h = rw (run-text z h)
 
 run-separator : {s : ℕ} (z : List ℕ) → Separator s → isBlank z ≡ false → run isWhitespace 0 (s ∷ z) ≡ 1
 unfolding run continuations continued
@@ -238,11 +238,11 @@ module _ (settings : Settings) (memory : Memory) (kind : TokenKind) (y z' : List
   follow-none : isBlank y ≡ false → Follow kind y z' z'
   follow-none f =
       record {
-        sim = rw (after_none y f) at r.sim;
+        sim = rw (after-none y f) at r.sim;
         gap = mark-none kind z' r.starts ∙ sym (mark-none kind y f);
-        next = after_none z' r.starts;
-        broken = λ e h. rw (is-nil z' (r.nils ∙ ap isNil (after_none y f) ∙ left (isNil y) (isBlank y) f h)) at-nil;
-        line = λ l. (rw (after_none y f) at r.line, no-newline z' r.starts);
+        next = after-none z' r.starts;
+        broken = λ e h. rw (is-nil z' (r.nils ∙ ap isNil (after-none y f) ∙ left (isNil y) (isBlank y) f h)) at-nil;
+        line = λ l. (rw (after-none y f) at r.line, no-newline z' r.starts);
       }
     where
       left : (t u : Bool) → u ≡ false → (t || u) ≡ true → t ≡ true
@@ -250,24 +250,24 @@ module _ (settings : Settings) (memory : Memory) (kind : TokenKind) (y z' : List
       left false u f h = sym f ∙ h
 
   -- a gap that does not return: what is kept of the rest behind it is kept
-  past-sort : sortAfter kind (gap_of y) ≡ false → isKind kind K.LineComment ≡ false → Returning y z'
+  past-sort : sortAfter kind (gapOf y) ≡ false → isKind kind K.LineComment ≡ false → Returning y z'
   past-sort f l h = r.line (returns-past (run isWhitespace 0 y) y (rw l at f) h)
 
   -- such a gap, and the end
-  follow-last : mark kind y ≡ none → sortAfter kind (gap_of y) ≡ false → isNil (afterGap y) ≡ true → Follow kind y z' z'
+  follow-last : mark kind y ≡ none → sortAfter kind (gapOf y) ≡ false → isNil (afterGap y) ≡ true → Follow kind y z' z'
   follow-last m f g =
       let e : z' ≡ [] = is-nil z' (r.nils ∙ g) in
       record {
         sim = (gap-of y).lost z' (rw e at-end) r.sim;
         gap = mark-none kind z' r.starts ∙ sym m;
-        next = after_none z' r.starts;
+        next = after-none z' r.starts;
         broken = λ l h. rw e at-nil;
         line = λ l. (past-sort f l, no-newline z' r.starts);
       }
 
   -- such a gap, and a token
-  follow-gap : mark kind y ≡ plain → isBlank y ≡ true → sortAfter kind (gap_of y) ≡ false → isNil (afterGap y) ≡ false → Follow kind y (gapBytes (usual kind) ++ z') z'
-  unfolding returns starts_with
+  follow-gap : mark kind y ≡ plain → isBlank y ≡ true → sortAfter kind (gapOf y) ≡ false → isNil (afterGap y) ≡ false → Follow kind y (gapBytes (usual kind) ++ z') z'
+  unfolding returns startsWith
   follow-gap m b f g =
       let q = separates kind in
       rw q.is
@@ -280,10 +280,10 @@ module _ (settings : Settings) (memory : Memory) (kind : TokenKind) (y z' : List
       })
 
   -- a gap that returns
-  follow-return : mark kind y ≡ returning → isBlank y ≡ true → sortAfter kind (gap_of y) ≡ true → Follow kind y (gapBytes Return ++ z') z'
-  unfolding returns starts_with
+  follow-return : mark kind y ≡ returning → isBlank y ≡ true → sortAfter kind (gapOf y) ≡ true → Follow kind y (gapBytes Return ++ z') z'
+  unfolding returns startsWith
   follow-return m b f =
-      let l : isKind kind K.LineComment ≡ false = sort-line kind (gap_of y) f in
+      let l : isKind kind K.LineComment ≡ false = sort-line kind (gapOf y) f in
       record {
         sim = (gap-of y).swapped 13 z' return b r.sim;
         gap = mark-separator {t = true} kind z' return r.starts (rw l) ∙ sym m;
@@ -293,9 +293,9 @@ module _ (settings : Settings) (memory : Memory) (kind : TokenKind) (y z' : List
       }
 
   follow : Follow kind y (joint (mark kind y) kind z') z'
-  follow = go (isBlank y) (sortAfter kind (gap_of y)) (isNil (afterGap y)) refl refl refl
+  follow = go (isBlank y) (sortAfter kind (gapOf y)) (isNil (afterGap y)) refl refl refl
     where
-      go : (t u v : Bool) → isBlank y ≡ t → sortAfter kind (gap_of y) ≡ u → isNil (afterGap y) ≡ v → Follow kind y (joint (mark kind y) kind z') z'
+      go : (t u v : Bool) → isBlank y ≡ t → sortAfter kind (gapOf y) ≡ u → isNil (afterGap y) ≡ v → Follow kind y (joint (mark kind y) kind z') z'
       go false u v e f g = rw (mark-none kind y e) (follow-none e)
       go true true v e f g = rw (mark-is kind y e f g) (follow-return (mark-is kind y e f g) e f)
       go true false true e f g = rw (mark-is kind y e f g) (follow-last (mark-is kind y e f g) f g)
@@ -322,8 +322,8 @@ module _ (settings : Settings) (memory : Memory) (b : ℕ) (x : List ℕ) (w : i
   abbrev memory' : Memory
   memory' = past memory f.p (b ∷ x)
 
-  kept_line : (y' z' : List ℕ) → Follow kind y y' z' → Returning x (take f.n x ++ y')
-  kept_line y' z' o h = go (isKind f.p.kind K.LineComment) refl
+  kept-line : (y' z' : List ℕ) → Follow kind y y' z' → Returning x (take f.n x ++ y')
+  kept-line y' z' o h = go (isKind f.p.kind K.LineComment) refl
     where
       go : (t : Bool) → isKind f.p.kind K.LineComment ≡ t → returns (take f.n x ++ y') ≡ true
       go true e = absurd (false≢true (sym ((told settings memory b x w f.p f.is f.n f.long).1 e).whole ∙ h))
@@ -337,7 +337,7 @@ module _ (settings : Settings) (memory : Memory) (b : ℕ) (x : List ℕ) (w : i
       let x' : List ℕ = take f.n x ++ y' in
       let ends = (told settings memory b x w f.p f.is f.n f.long).1 in
       let is' : nextPiece settings memory (b ∷ (take f.n x ++ y')) ≡ R.Token f.p =
-      piece-sim settings memory b x w f.p f.is f.n (take f.n x ++ y') k.sim (kept_line y' z' o) f.long
+      piece-sim settings memory b x w f.p f.is f.n (take f.n x ++ y') k.sim (kept-line y' z' o) f.long
       (λ l. k.broken (o.broken (given-line settings.joins f.p.kind ∙ l) (ends l).ends)) in
       let same-value : take f.p.len (b ∷ x) ≡ take f.p.len (b ∷ (take f.n x ++ y')) = rw f.long (take-sim (keep {b = b} k.sim)) in
       record {
@@ -348,7 +348,7 @@ module _ (settings : Settings) (memory : Memory) (b : ℕ) (x : List ℕ) (w : i
             (sym (items-one settings memory b x f.p f.n w f.is f.long));
         starts = sym (blank-sim b k.sim) ∙ w;
         nils = refl;
-        line = λ h. returns-head b (take f.n x ++ y') (sym (blank-sim b k.sim) ∙ w) ∙ kept_line y' z' o (sym (returns-head b x w) ∙ h);
+        line = λ h. returns-head b (take f.n x ++ y') (sym (blank-sim b k.sim) ∙ w) ∙ kept-line y' z' o (sym (returns-head b x w) ∙ h);
       }
 
   read-one-again : Read settings memory' (afterGap y) (render (items (readFrom settings memory' 0 (afterGap y)))) → Read settings memory (b ∷ x) (render (items (readFrom settings memory 0 (b ∷ x))))
@@ -365,7 +365,7 @@ module _ (settings : Settings) where
 
   holds-nil : Holds []
   unfolding items render
-  holds-nil memory w = rw (read_none settings memory) (record { sim = nil; again = rw (read_none settings memory); starts = w; nils = refl; line = λ h. h })
+  holds-nil memory w = rw (read-none settings memory) (record { sim = nil; again = rw (read-none settings memory); starts = w; nils = refl; line = λ h. h })
 
   holds-cons : (b : ℕ) (x : List ℕ) → ((k : ℕ) → Holds (drop k x)) → Holds (b ∷ x)
   holds-cons b x ih memory w = read-one-again settings memory b x w (go (found settings memory b x).n)

@@ -28,9 +28,9 @@ Small (Written n escaped) = (n ≤ longest) × (escaped * 2 ≤ longest)
 Small (Refused refusal) = Unit {0}
 
 module _ (s : List ℕ) (dialect joins named room : ℕ) where
-  written_small : (settings : Settings) → length s ≤ longest → Small (tableAnswer settings s room)
+  written-small : (settings : Settings) → length s ≤ longest → Small (tableAnswer settings s room)
   unfolding tableAnswer
-  written_small settings l = go (ltb (room / recordBytes) (length (tokens settings s)))
+  written-small settings l = go (ltb (room / recordBytes) (length (tokens settings s)))
     where
       go : (t : Bool) → Small (cond t (Refused (TableFull (length (tokens settings s)))) (allWritten (totals (tokens settings s))))
       go true = tt
@@ -41,5 +41,5 @@ module _ (s : List ℕ) (dialect joins named room : ℕ) where
   answer-small = go (checked dialect joins named s) refl
     where
       go : (c : Checked) → checked dialect joins named s ≡ c → Small (acceptedOr (λ settings. tableAnswer settings s room) Refused c)
-      go (C.Accepted settings) e = written_small settings (accepted-short dialect joins named s settings e)
+      go (C.Accepted settings) e = written-small settings (accepted-short dialect joins named s settings e)
       go (C.Refused refusal) e = tt

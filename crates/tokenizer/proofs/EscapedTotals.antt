@@ -20,7 +20,7 @@ use Rattle.tokenizer.specs.Records.{recordBytes, recordsOf}
 use Rattle.tokenizer.specs.Tokens.{tokenAt, tokens}
 use Rattle.tokenizer.specs.Values.{value, values}
 use Rattle.tokenizer.proofs.EachToken.{Each, each-token}
-use Rattle.tokenizer.proofs.EndToEnd.{end_to_end}
+use Rattle.tokenizer.proofs.EndToEnd.{end-to-end}
 use Rattle.tokenizer.proofs.NextPieceSizes.{piece-sized}
 use Rattle.tokenizer.proofs.RecordBytes.{recordWalk, records-count}
 use Rattle.tokenizer.proofs.Walks.{Walk, Counted, Wrote}
@@ -71,7 +71,7 @@ module _ (settings : Settings) (s : List ℕ) where
           (rw (length-take-le p.len (drop at s) f.inside) f.escaped-inside, tt)
 
   pub few-escaped : escapedIn (tokens settings s) * 2 ≤ length s
-  few-escaped = rw end_to_end at (few-sum s (tokens settings s) few-each)
+  few-escaped = rw end-to-end at (few-sum s (tokens settings s) few-each)
 
   pub escaped-fit : length s < 2 ^ 64 → length (allMarks (tokens settings s)) < 2 ^ 64
   escaped-fit h = omega (arith, all-marked (tokens settings s), few-escaped)

@@ -51,7 +51,7 @@ never-join false TokenKind.Join = omega arith
 pub record Words32 (t : Token) : Type 0 where
   pub kind-below : kindNumber t.kind < 16
   pub start-below : t.start < 2 ^ 32
-  pub len_below : t.len < 2 ^ 32
+  pub len-below : t.len < 2 ^ 32
   pub alias-below : t.alias < 2 ^ 32
   pub a-below : (keyWords t.key).a < 2 ^ 32
   pub b-below : (keyWords t.key).b < 2 ^ 32
@@ -60,15 +60,15 @@ record Key32 (key : Key) : Type 0 where
   a-below : (keyWords key).a < 2 ^ 32
   b-below : (keyWords key).b < 2 ^ 32
 
-key_below : (at n : ℕ) (key : Key) → at + n ≤ longest → KeyFits n key → Key32 (placed at key)
-key_below at n None l h = record { a-below = omega arith; b-below = omega arith }
-key_below at n (Named start len) l h = record { a-below = omega arith; b-below = omega arith }
-key_below at n (Escaped start len) l h = record { a-below = omega arith; b-below = omega arith }
-key_below at n (ZeroIndexed i) l h = record { a-below = omega arith; b-below = omega arith }
-key_below at n (OneIndexed i) l h = record { a-below = omega arith; b-below = omega arith }
+key-below : (at n : ℕ) (key : Key) → at + n ≤ longest → KeyFits n key → Key32 (placed at key)
+key-below at n None l h = record { a-below = omega arith; b-below = omega arith }
+key-below at n (Named start len) l h = record { a-below = omega arith; b-below = omega arith }
+key-below at n (Escaped start len) l h = record { a-below = omega arith; b-below = omega arith }
+key-below at n (ZeroIndexed i) l h = record { a-below = omega arith; b-below = omega arith }
+key-below at n (OneIndexed i) l h = record { a-below = omega arith; b-below = omega arith }
 
-pub handed_out : (settings : Settings) (s : List ℕ) → length s ≤ longest → Each Words32 (tokens settings s)
-handed_out settings s l = each-token settings s Words32 (λ at. Unit {0}) one tt
+pub handed-out : (settings : Settings) (s : List ℕ) → length s ≤ longest → Each Words32 (tokens settings s)
+handed-out settings s l = each-token settings s Words32 (λ at. Unit {0}) one tt
   where
     one : (memory : Memory) (at : ℕ) (p : Piece) → at < length s → Unit {0} → nextPiece settings memory (drop at s) ≡ R.Token p
         → Words32 (record { kind = givenOut settings.joins p.kind; start = at; len = p.len; alias = p.alias; key = placed at p.key; escaped = p.escaped }) × Unit {0}
@@ -77,11 +77,11 @@ handed_out settings s l = each-token settings s Words32 (λ at. Unit {0}) one tt
         let i = f.inside in
         let a = f.alias-inside in
         let n = length-drop at s in
-        let k = key_below at p.len p.key (omega (arith, l)) f.key-inside in (
+        let k = key-below at p.len p.key (omega (arith, l)) f.key-inside in (
           record {
             kind-below = never-join settings.joins p.kind;
             start-below = omega (arith, l);
-            len_below = omega (arith, l);
+            len-below = omega (arith, l);
             alias-below = omega (arith, l);
             a-below = k.a-below;
             b-below = k.b-below;

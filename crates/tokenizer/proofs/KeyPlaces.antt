@@ -26,5 +26,5 @@ module _ (at : ℕ) (key : Key) where
   pub placed-zero : (n : ℕ) → key ≡ ZeroIndexed n → ZeroIndexed n ≡ placed at key
   placed-zero n e = rw e
 
-  pub placed_one : (n : ℕ) → key ≡ OneIndexed n → OneIndexed n ≡ placed at key
-  placed_one n e = rw e
+  pub placed-one : (n : ℕ) → key ≡ OneIndexed n → OneIndexed n ≡ placed at key
+  placed-one n e = rw e

@@ -31,11 +31,11 @@ module _ (level : ℕ) (kind : TokenKind) (opens : Bool) (a : opens ≡ isKind k
   module _ (n : opens ≡ false) (closes : Bool) (b : closes ≡ isKind kind CloseParen) where
     pub level-lowered : closes ≡ true → 0 < level → level - 1 ≡ levelPast level kind
     unfolding levelPast
-    level-lowered e h = rw (← a, n, ← b, e) (one_less level)
+    level-lowered e h = rw (← a, n, ← b, e) (one-less level)
       where
-        one_less : (k : ℕ) → k - 1 ≡ pred k
-        one_less zero = refl
-        one_less (suc k) = omega arith
+        one-less : (k : ℕ) → k - 1 ≡ pred k
+        one-less zero = refl
+        one-less (suc k) = omega arith
 
     pub level-floor : closes ≡ true → level ≤ 0 → level ≡ levelPast level kind
     unfolding levelPast
@@ -98,12 +98,12 @@ balanced level kind = go (isKind kind OpenParen) refl
     not-both true e f = absurd (let x : kindNumber kind ≡ 9 = eqb-true _ _ e in let y : kindNumber kind ≡ 10 = eqb-true _ _ f in let z : ⊥ = omega (arith, x, y) in z)
     not-both false e f = omega arith
 
-    one_less : (k : ℕ) → pred k + min k 1 ≡ k + 0
-    one_less zero = refl
-    one_less (suc k) = omega arith
+    one-less : (k : ℕ) → pred k + min k 1 ≡ k + 0
+    one-less zero = refl
+    one-less (suc k) = omega arith
 
     closing : (b : Bool) → cond b (pred level) level + cond b (min level 1) 0 ≡ level + 0
-    closing true = one_less level
+    closing true = one-less level
     closing false = refl
 
     go : (a : Bool) → isKind kind OpenParen ≡ a → cond a (suc level) (cond (isKind kind CloseParen) (pred level) level) + cond (isKind kind CloseParen) (min level 1) 0 ≡ level + one-if a

@@ -10,7 +10,7 @@ use Rattle.characters.specs.Ranges.{within, inRanges}
 use Rattle.characters.specs.WhiteSpace.{whiteSpace}
 use Rattle.characters.specs.Alphabetic.{alphabetic}
 use Rattle.characters.specs.Numeric.{numeric}
-use Rattle.characters.specs.Character.{continuations, continued, firstBits, with_bits, codePoint}
+use Rattle.characters.specs.Character.{continuations, continued, firstBits, withBits, codePoint}
 use Rattle.characters.specs.Classes.{isWhitespace, isAlphabetic, isNumeric, isAlphanumeric, isPlaceholderNameCharacter}
 use Rattle.characters.specs.Runs.{run}
 use Rattle.recognisers.specs.declared.Dialect.{Dialect}
@@ -19,7 +19,7 @@ use Rattle.recognisers.specs.declared.Key.TheVariants.{None, Named}
 use Rattle.recognisers.specs.declared.TokenKind.TheVariants as K
 use Rattle.recognisers.specs.Text.{bytes}
 use Rattle.recognisers.specs.Same.{same}
-use Rattle.recognisers.specs.Taking.{one, spelled, typed, capital, count, digit1, contains, starts_with}
+use Rattle.recognisers.specs.Taking.{one, spelled, typed, capital, count, digit1, contains, startsWith}
 use Rattle.recognisers.specs.TypeSpecifier.{getTypeSpecifierToken}
 use Rattle.recognisers.specs.Comment.{getCommentToken}
 use Rattle.recognisers.specs.Strings.{takeTillEscaping, closedBy, hexTaken, quotedTaken, stringTaken, pairsPassed, pairsIn, stringPairs, getStringToken}
@@ -44,7 +44,7 @@ pub nationals : List (List ℕ × ℕ)
 nationals = (bytes "@N'a'", 3) ∷ (bytes "@N'ab'", 4) ∷ []
 
 pub national-placeholder : (dialect : Dialect) (joins named : Bool) → map (λ w. tokens (record { dialect = dialect; joins = joins; named = named }) w.0) nationals ≡ map (λ w. placeholder ∷ string w.1 ∷ []) nationals
-unfolding nationals within inRanges whiteSpace alphabetic numeric continuations continued firstBits with_bits codePoint isWhitespace isAlphabetic isNumeric isAlphanumeric isPlaceholderNameCharacter run same one spelled typed capital count digit1 contains starts_with getTypeSpecifierToken getCommentToken takeTillEscaping closedBy hexTaken quotedTaken stringTaken pairsPassed pairsIn stringPairs getStringToken getOpenParenToken getCloseParenToken decimalNumber scientificNotation unsigned getNumberToken getWhitespaceToken isOperator getOperatorToken indexedTaken getIndexedPlaceholderToken placeholderName identTaken getIdentNamedPlaceholderToken getPlaceholderToken mayBeReserved getReservedWordToken takesTypeSpecifier afterBetween lastTopLevel remember remembered fromPlaceholder fromOperator fromReserved fromNumber fromCloseParen fromOpenParen fromString fromTypeSpecifier getNextToken nextPiece givenOut tokensFrom tokens
+unfolding nationals within inRanges whiteSpace alphabetic numeric continuations continued firstBits withBits codePoint isWhitespace isAlphabetic isNumeric isAlphanumeric isPlaceholderNameCharacter run same one spelled typed capital count digit1 contains startsWith getTypeSpecifierToken getCommentToken takeTillEscaping closedBy hexTaken quotedTaken stringTaken pairsPassed pairsIn stringPairs getStringToken getOpenParenToken getCloseParenToken decimalNumber scientificNotation unsigned getNumberToken getWhitespaceToken isOperator getOperatorToken indexedTaken getIndexedPlaceholderToken placeholderName identTaken getIdentNamedPlaceholderToken getPlaceholderToken mayBeReserved getReservedWordToken takesTypeSpecifier afterBetween lastTopLevel remember remembered fromPlaceholder fromOperator fromReserved fromNumber fromCloseParen fromOpenParen fromString fromTypeSpecifier getNextToken nextPiece givenOut tokensFrom tokens
 national-placeholder Generic joins true = refl
 national-placeholder Generic joins false = refl
 national-placeholder PostgreSql joins true = refl

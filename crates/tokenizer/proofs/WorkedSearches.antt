@@ -16,7 +16,7 @@ use Rattle.recognisers.specs.Text.{byte, bytes}
 use Rattle.calls.specs.declared.Settings.{Settings}
 use Rattle.tokenizer.specs.declared.Token.{Token}
 use Rattle.characters.specs.Alphabetic.{alphabetic}
-use Rattle.characters.specs.Character.{isContinuation, continuations, continued, firstBits, with_bits, characterLength, codePoint, character}
+use Rattle.characters.specs.Character.{isContinuation, continuations, continued, firstBits, withBits, characterLength, codePoint, character}
 use Rattle.characters.specs.Classes.{isWhitespace, isAlphabetic, isNumeric, isMark, isPunctuationConnector, isAlphanumeric, isWordCharacter, isPlaceholderNameCharacter}
 use Rattle.characters.specs.Connector.{connector}
 use Rattle.characters.specs.Mark.{mark}
@@ -29,7 +29,7 @@ use Rattle.recognisers.specs.Number.{decimalNumber, signedDigits, exponent, scie
 use Rattle.recognisers.specs.Parens.{getOpenParenToken, getCloseParenToken}
 use Rattle.recognisers.specs.Placeholder.{numberFrom, indexedKey, indexedTaken, getIndexedPlaceholderToken, placeholderName, identTaken, getIdentNamedPlaceholderToken, throughBrace, bracedText, bracedTaken, getBracedNamedPlaceholderToken, hasEscape, stringKey, stringNamedTaken, getStringNamedPlaceholderToken, getPlaceholderToken}
 use Rattle.recognisers.specs.Strings.{takeTillEscaping, closedBy, hexTaken, quotedTaken, stringTaken, getStringToken, placeholderQuotedTaken, placeholderStringTaken}
-use Rattle.recognisers.specs.Taking.{one, spelled, isSpelled, typed, capital, blanks, endOfWord, count, digit1, digit0, contains, starts_with}
+use Rattle.recognisers.specs.Taking.{one, spelled, isSpelled, typed, capital, blanks, endOfWord, count, digit1, digit0, contains, startsWith}
 use Rattle.recognisers.specs.TypeSpecifier.{getTypeSpecifierToken}
 use Rattle.recognisers.specs.Words.{getWhitespaceToken, isOperator, getOperatorToken, getWordToken, getAnyOtherChar}
 use Rattle.reserved.specs.Join.{joinPhrases}
@@ -37,7 +37,7 @@ use Rattle.reserved.specs.Newline.{newlinePhrases}
 use Rattle.reserved.specs.NewlineAfter.{newlineAfterPhrases}
 use Rattle.reserved.specs.NoIndent.{noIndentPhrases}
 use Rattle.reserved.specs.Phrases.{walk, optional, phraseEnd, firstPhrase, each}
-use Rattle.reserved.specs.Plain.{plainTwoPhrases, plainA, plainB, plainC, plainD, plainE, plain_f, plainG, plainH, plainI, plainK, plainL, plainM, plainN, plainO, plainP, plainQ, plainR, plainS, plainT, plainU, plainV, plainW, plainY, plainOnePhrases}
+use Rattle.reserved.specs.Plain.{plainTwoPhrases, plainA, plainB, plainC, plainD, plainE, plainF, plainG, plainH, plainI, plainK, plainL, plainM, plainN, plainO, plainP, plainQ, plainR, plainS, plainT, plainU, plainV, plainW, plainY, plainOnePhrases}
 use Rattle.recognisers.specs.Same.{same}
 use Rattle.reserved.specs.Reserved.{topLevelKind, aliasLength, getTopLevelReservedToken, getNewlineAfterReservedToken, getNewlineReservedToken, getJoinToken, getTopLevelReservedTokenNoIndent, getPlainReservedToken, mayBeReserved, getReservedWordToken}
 use Rattle.reserved.specs.TopLevel.{creatable, alterableOrDroppable, eachDropped, topLevelPhrases}
@@ -83,5 +83,5 @@ searches =
     ∷ []
 
 pub worked : map (λ w. shown (tokens w.0 w.1)) searches ≡ map (λ w. w.2) searches
-unfolding alphabetic isContinuation continuations continued firstBits with_bits characterLength codePoint character isWhitespace isAlphabetic isNumeric isMark isPunctuationConnector isAlphanumeric isWordCharacter isPlaceholderNameCharacter connector mark numeric within inRanges inClass run whiteSpace tillLineEnding throughBlockEnd getCommentToken decimalNumber signedDigits exponent scientificNotation unsigned getNumberToken getOpenParenToken getCloseParenToken numberFrom indexedKey indexedTaken getIndexedPlaceholderToken placeholderName identTaken getIdentNamedPlaceholderToken throughBrace bracedText bracedTaken getBracedNamedPlaceholderToken hasEscape stringKey stringNamedTaken getStringNamedPlaceholderToken getPlaceholderToken takeTillEscaping closedBy hexTaken quotedTaken stringTaken getStringToken placeholderQuotedTaken placeholderStringTaken one spelled isSpelled typed capital blanks endOfWord count digit1 digit0 contains starts_with getTypeSpecifierToken getWhitespaceToken isOperator getOperatorToken getWordToken getAnyOtherChar joinPhrases newlinePhrases newlineAfterPhrases noIndentPhrases walk optional phraseEnd firstPhrase each plainTwoPhrases plainA plainB plainC plainD plainE plain_f plainG plainH plainI plainK plainL plainM plainN plainO plainP plainQ plainR plainS plainT plainU plainV plainW plainY plainOnePhrases same topLevelKind aliasLength getTopLevelReservedToken getNewlineAfterReservedToken getNewlineReservedToken getJoinToken getTopLevelReservedTokenNoIndent getPlainReservedToken mayBeReserved getReservedWordToken creatable alterableOrDroppable eachDropped topLevelPhrases takesTypeSpecifier topLevelOf afterBetween lastTopLevel remember remembered fromWord fromPlaceholder fromOperator fromReserved fromNumber fromCloseParen fromOpenParen fromString fromTypeSpecifier getNextToken nextPiece givenOut stepAt tokensFrom tokens shown settings generic plain searches
+unfolding alphabetic isContinuation continuations continued firstBits withBits characterLength codePoint character isWhitespace isAlphabetic isNumeric isMark isPunctuationConnector isAlphanumeric isWordCharacter isPlaceholderNameCharacter connector mark numeric within inRanges inClass run whiteSpace tillLineEnding throughBlockEnd getCommentToken decimalNumber signedDigits exponent scientificNotation unsigned getNumberToken getOpenParenToken getCloseParenToken numberFrom indexedKey indexedTaken getIndexedPlaceholderToken placeholderName identTaken getIdentNamedPlaceholderToken throughBrace bracedText bracedTaken getBracedNamedPlaceholderToken hasEscape stringKey stringNamedTaken getStringNamedPlaceholderToken getPlaceholderToken takeTillEscaping closedBy hexTaken quotedTaken stringTaken getStringToken placeholderQuotedTaken placeholderStringTaken one spelled isSpelled typed capital blanks endOfWord count digit1 digit0 contains startsWith getTypeSpecifierToken getWhitespaceToken isOperator getOperatorToken getWordToken getAnyOtherChar joinPhrases newlinePhrases newlineAfterPhrases noIndentPhrases walk optional phraseEnd firstPhrase each plainTwoPhrases plainA plainB plainC plainD plainE plainF plainG plainH plainI plainK plainL plainM plainN plainO plainP plainQ plainR plainS plainT plainU plainV plainW plainY plainOnePhrases same topLevelKind aliasLength getTopLevelReservedToken getNewlineAfterReservedToken getNewlineReservedToken getJoinToken getTopLevelReservedTokenNoIndent getPlainReservedToken mayBeReserved getReservedWordToken creatable alterableOrDroppable eachDropped topLevelPhrases takesTypeSpecifier topLevelOf afterBetween lastTopLevel remember remembered fromWord fromPlaceholder fromOperator fromReserved fromNumber fromCloseParen fromOpenParen fromString fromTypeSpecifier getNextToken nextPiece givenOut stepAt tokensFrom tokens shown settings generic plain searches
 worked = refl

@@ -41,18 +41,18 @@ tokenAt settings at piece =
     }
 
 -- the token at the cursor, and the cursor past it
-abbrev pub step_of : Settings → List ℕ → Cursor → Recognised → Step
-step_of settings s cursor (R.Token piece) =
+abbrev pub stepOf : Settings → List ℕ → Cursor → Recognised → Step
+stepOf settings s cursor (R.Token piece) =
     S.Token (tokenAt settings cursor.at piece)
     (record {
       at = cursor.at + piece.len;
       memory = remembered cursor.memory piece.kind (take piece.len (drop cursor.at s)) piece.alias;
     })
-step_of settings s cursor R.Nothing = S.Done
+stepOf settings s cursor R.Nothing = S.Done
 
 unfoldable pub stepAt : Settings → List ℕ → Cursor → Step
 stepAt settings s cursor =
-    cond (ltb cursor.at (length s)) (step_of settings s cursor (nextPiece settings cursor.memory (drop cursor.at s))) S.Done
+    cond (ltb cursor.at (length s)) (stepOf settings s cursor (nextPiece settings cursor.memory (drop cursor.at s))) S.Done
 
 -- the tokens of a rest that starts at a place, where its first `passed` bytes belong to a token that has been read
 unfoldable pub tokensFrom : Settings → Memory → ℕ → ℕ → List ℕ → List Token

@@ -21,8 +21,8 @@ use Rattle.ventpeeler.specs.Packed.{packed, packedTable, packedText}
 pub more-than : (n most : ℕ) → most < n → most ≡ min n most
 more-than n most h = sym (min_comm n most ∙ min-eq_left (omega arith))
 
-pub no_more : (n most : ℕ) → n ≤ most → n ≡ min n most
-no_more n most h = sym (min-eq_left h)
+pub no-more : (n most : ℕ) → n ≤ most → n ≡ min n most
+no-more n most h = sym (min-eq_left h)
 
 module _ (number detail told : ℕ) (f : told ≡ min detail 72057594037927935) where
   pub packed-is : number * 72057594037927936 + told ≡ packed number detail
@@ -67,9 +67,9 @@ module _ (s : List ℕ) (dialect joins named room : ℕ) (answer : TableAnswer) 
     written-told r g = g ∙ ap packedTable (sym f ∙ e)
 
     -- what the header's functions read is what was told: nothing meets
-    pub written_read : (r : ℕ) → r ≡ packedTable (tokenizeAnswer s dialect joins named room) → (r / 72057594037927936 ≡ 0) × (r % 4294967296 ≡ n) × (r / 4294967296 ≡ escaped)
+    pub written-read : (r : ℕ) → r ≡ packedTable (tokenizeAnswer s dialect joins named room) → (r / 72057594037927936 ≡ 0) × (r % 4294967296 ≡ n) × (r / 4294967296 ≡ escaped)
     unfolding packedTable packed
-    written_read r g =
+    written-read r g =
         let h : r ≡ 0 * 72057594037927936 + min (escaped * 4294967296 + n) 72057594037927935 = g ∙ ap packedTable (sym e ∙ f) in
         let m : min (escaped * 4294967296 + n) 72057594037927935 ≡ escaped * 4294967296 + n = min-eq_left (omega (arith, small.0, small.1)) in
         let k : r ≡ escaped * 4294967296 + n = h ∙ rw m (omega arith) in

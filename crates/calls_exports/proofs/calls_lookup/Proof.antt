@@ -1,5 +1,5 @@
 use borrow.Author.Rules.{rules}
-use Rattle.calls_exports.proofs.LookupTwins.{copied, no_room}
+use Rattle.calls_exports.proofs.LookupTwins.{copied, no-room}
 use Rattle.calls_exports.proofs.calls_lookup.Statement.{statement}
 use Rattle.calls_exports.proofs.calls_lookup.Tie as tie
 
@@ -16,7 +16,7 @@ returns : tie.Need-returns
 returns c = (search rules, (search rules, (search rules, search copied)))
 
 returns-2 : tie.Need-returns-2
-returns-2 c = (search rules, (search rules, (search rules, search no_room)))
+returns-2 c = (search rules, (search rules, (search rules, search no-room)))
 
 pub calls-lookup-spec : {M : Type 1} → statement M
 calls-lookup-spec =

@@ -6,7 +6,7 @@ use Rattle.params.specs.declared.Params.{Params}
 use Rattle.params.specs.declared.Part.{Part}
 use Rattle.params.specs.declared.QueryParams.TheVariants.{Indexed}
 use Rattle.params.specs.Get.{byName, takenFrom, valueOr, indexFrom}
-use Rattle.params.specs.Inner.Carried.{params_at}
+use Rattle.params.specs.Inner.Carried.{paramsAt}
 
 -- what stands for a placeholder with a named sheet
 abbrev pub namedPart : List ℕ → List ℕ → Token → Part
@@ -18,4 +18,4 @@ indexedPart s sheet index t = valueOr sheet (takenFrom Indexed s sheet index t.k
 
 -- what is carried past it with an indexed sheet
 abbrev pub indexedPast : List ℕ → List ℕ → ℕ → Key → Params
-indexedPast s sheet index key = params_at sheet (indexFrom Indexed s index key)
+indexedPast s sheet index key = paramsAt sheet (indexFrom Indexed s index key)

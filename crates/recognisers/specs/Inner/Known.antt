@@ -3,14 +3,14 @@
 use Rattle.std.specs.Prelude.{ℕ, ◌≤◌, ◌≡◌, false, List, length, drop, get_or}
 use Rattle.recognisers.specs.declared.Taken.TheVariants.{Fails}
 use Rattle.recognisers.specs.Text.{byte, bytes}
-use Rattle.recognisers.specs.Taking.{Taker, starts_with}
+use Rattle.recognisers.specs.Taking.{Taker, startsWith}
 use Rattle.recognisers.specs.Comment.{tillLineEnding}
 use Rattle.recognisers.specs.Placeholder.{throughBrace}
 use Rattle.recognisers.specs.Strings.{takeTillEscaping}
 
 -- of the rests of s, those of at most `known` bytes that do not start with the quote lack their closing quote
 pub record Known (desired : ℕ) (escapes s : List ℕ) (known : ℕ) : Type 0 where
-  pub fails : (q : ℕ) → length (drop q s) ≤ known → starts_with desired (drop q s) ≡ false → takeTillEscaping desired escapes false (drop q s) ≡ Fails
+  pub fails : (q : ℕ) → length (drop q s) ≤ known → startsWith desired (drop q s) ≡ false → takeTillEscaping desired escapes false (drop q s) ≡ Fails
 
 -- the taker fails on the rests of s that have from `least` to `most` bytes
 pub record Barren (taker : Taker) (s : List ℕ) (least most : ℕ) : Type 0 where

@@ -50,13 +50,13 @@ pub data FoundPhrase : Type 0 where
   Nothing : FoundPhrase
 
 -- how many bytes it takes; its group's letter, or what was there before
-abbrev pub length_of : FoundPhrase → ℕ
-length_of (Entry group n) = n
-length_of Nothing = 0
+abbrev pub lengthOf : FoundPhrase → ℕ
+lengthOf (Entry group n) = n
+lengthOf Nothing = 0
 
-abbrev pub group_of : ℕ → FoundPhrase → ℕ
-group_of before (Entry group n) = group
-group_of before Nothing = before
+abbrev pub groupOf : ℕ → FoundPhrase → ℕ
+groupOf before (Entry group n) = group
+groupOf before Nothing = before
 
 -- the entry where it stands in the text, else another answer
 abbrev pub chosen : ℕ → Taken → FoundPhrase → FoundPhrase

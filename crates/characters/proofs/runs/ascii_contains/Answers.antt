@@ -1,6 +1,6 @@
 use mathlib.Core.Path.{◌∙◌}
 use Rattle.characters.specs.Runs.{inClass}
-use Rattle.characters.proofs.AsciiRule.{space-byte, word_byte}
+use Rattle.characters.proofs.AsciiRule.{space-byte, word-byte}
 use Rattle.characters.proofs.runs.ascii_contains.Goals as goal
 
 pub returns-in-Whitespace : goal.returns-in-Whitespace
@@ -9,4 +9,4 @@ returns-in-Whitespace c = rw c.in-Whitespace.is (c.is_space.ensures ∙ space-by
 
 pub returns-in-Word : goal.returns-in-Word
 unfolding inClass
-returns-in-Word c = rw c.in-Word.is (c.is_ascii_word.ensures ∙ word_byte _)
+returns-in-Word c = rw c.in-Word.is (c.is_ascii_word.ensures ∙ word-byte _)

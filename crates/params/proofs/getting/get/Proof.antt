@@ -1,6 +1,6 @@
 use borrow.Author.Rules.{rules}
 use Rattle.params.proofs.EntriesInside.{sheet-some}
-use Rattle.params.proofs.GetByCases.{get_none, get-named, get-indexed}
+use Rattle.params.proofs.GetByCases.{get-none, get-named, get-indexed}
 use Rattle.params.proofs.getting.get.Statement.{statement}
 use Rattle.params.proofs.getting.get.Tie as tie
 
@@ -26,7 +26,7 @@ get-indexed-requires : tie.Need-get-indexed-requires
 get-indexed-requires c κs = search rules
 
 returns : tie.Need-returns
-returns c = search get_none
+returns c = search get-none
 
 returns-2 : tie.Need-returns-2
 returns-2 c = search get-named

@@ -1,6 +1,6 @@
 use borrow.Author.Rules.{rules}
 use Rattle.params.proofs.EntriesInside.{sheet-some}
-use Rattle.params.proofs.GetByCases.{none-past, named_past, indexed-past}
+use Rattle.params.proofs.GetByCases.{none-past, named-past, indexed-past}
 use Rattle.params.proofs.getting.past_placeholder.Statement.{statement}
 use Rattle.params.proofs.getting.past_placeholder.Tie as tie
 
@@ -23,7 +23,7 @@ returns : tie.Need-returns
 returns c = search none-past
 
 returns-2 : tie.Need-returns-2
-returns-2 c = search named_past
+returns-2 c = search named-past
 
 returns-3 : tie.Need-returns-3
 returns-3 c = search indexed-past

@@ -1,5 +1,5 @@
 use borrow.Author.Rules.{rules}
-use Rattle.params.proofs.KeyTexts.{named-fits, named_end, escaped-fits, escaped-end, none_named, named-named, escaped-named, zero-named, one-named}
+use Rattle.params.proofs.KeyTexts.{named-fits, named-end, escaped-fits, escaped-end, none-named, named-named, escaped-named, zero-named, one-named}
 use Rattle.params.proofs.keys.has_name.Statement.{statement}
 use Rattle.params.proofs.keys.has_name.Tie as tie
 
@@ -19,7 +19,7 @@ part-text-length-start : tie.Need-slice-bounds-text-length-start
 part-text-length-start c = search rules
 
 part-text-length-end : tie.Need-slice-bounds-text-length-end
-part-text-length-end c = search named_end
+part-text-length-end c = search named-end
 
 text-length-requires : tie.Need-text-length-requires
 text-length-requires c κs = search rules
@@ -49,7 +49,7 @@ enum-told-3 : tie.Need-enum-told-3
 enum-told-3 c = search rules
 
 returns : tie.Need-returns
-returns c = search none_named
+returns c = search none-named
 
 returns-2 : tie.Need-returns-2
 returns-2 c = search named-named

@@ -1,5 +1,5 @@
 use borrow.Author.Rules.{rules}
-use Rattle.params.proofs.KeyTexts.{named-fits, named_end, escaped-fits, escaped-end, quote-inside, none-same, named-same, escaped-same, zero_same, one_same}
+use Rattle.params.proofs.KeyTexts.{named-fits, named-end, escaped-fits, escaped-end, quote-inside, none-same, named-same, escaped-same, zero-same, one-same}
 use Rattle.params.proofs.keys.is_key_name.Statement.{statement}
 use Rattle.params.proofs.keys.is_key_name.Tie as tie
 
@@ -19,7 +19,7 @@ part-is-exactly-start : tie.Need-slice-bounds-is-exactly-start
 part-is-exactly-start c = search rules
 
 part-is-exactly-end : tie.Need-slice-bounds-is-exactly-end
-part-is-exactly-end c = search named_end
+part-is-exactly-end c = search named-end
 
 is-exactly-requires : tie.Need-is-exactly-requires
 is-exactly-requires c κs = search rules
@@ -61,10 +61,10 @@ returns-3 : tie.Need-returns-3
 returns-3 c = search escaped-same
 
 returns-4 : tie.Need-returns-4
-returns-4 c = search zero_same
+returns-4 c = search zero-same
 
 returns-5 : tie.Need-returns-5
-returns-5 c = search one_same
+returns-5 c = search one-same
 
 pub is-key-name-spec : {M : Type 1} → statement M
 is-key-name-spec =

@@ -1,7 +1,7 @@
 use borrow.Author.Rules.{rules}
 use Prim.Native.Nat.{◌-◌}
 use lib.ListN.{length}
-use Rattle.params.proofs.Lookups.{Ahead, find-start, find-key, find-less, find-more, find-found, found_inside, find_none, none_inside}
+use Rattle.params.proofs.Lookups.{Ahead, find-start, find-key, find-less, find-more, find-found, found-inside, find-none, none-inside}
 use Rattle.recognisers.proofs.Unclosed.{truthful-none, hint-count}
 use Rattle.tokenizer.proofs.Walks.{Going}
 use Rattle.params.proofs.looking.find.Statement.{statement}
@@ -35,7 +35,7 @@ found-for-requires : tie.Need-found-for-requires invariant-loop decreases-loop
 found-for-requires c κs = search (find-key, rules)
 
 returns : tie.Need-returns invariant-loop decreases-loop
-returns c = (search find-found, search found_inside)
+returns c = (search find-found, search found-inside)
 
 sub-ahead : tie.Need-overflow-sub-ahead invariant-loop decreases-loop
 sub-ahead c = search rules
@@ -53,7 +53,7 @@ nothing-found-requires : tie.Need-nothing-found-requires invariant-loop decrease
 nothing-found-requires c κs = search rules
 
 returns-2 : tie.Need-returns-2 invariant-loop decreases-loop
-returns-2 c = (search find_none, search none_inside)
+returns-2 c = (search find-none, search none-inside)
 
 pub find_spec : {M : Type 1} → statement M
 find_spec =

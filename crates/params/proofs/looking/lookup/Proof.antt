@@ -21,7 +21,7 @@ use contract.Lifetimes.{Lfts, Shares}
 use contract.Monad.{Fun}
 use contract.Running.{tables, tables_of}
 use types.Kit.{Item, ‵, raw, ◌⊛◌, ⋆, some, later, ◌$◌, ◌∵◌, !, qed, by, move, use1, use2, split, join, pick, fsplit, fsplit3, fjoin, fjoin3, suffices, frame, await, done}
-use types.Run.{look, init, forget, stop, hop, from, load, addr, and_then, no_more, assigns, land, returns, enter, alloc1, alloc0, params1, pass1, pass0, free1, free0}
+use types.Run.{look, init, forget, stop, hop, from, load, addr, and_then, no-more, assigns, land, returns, enter, alloc1, alloc0, params1, pass1, pass0, free1, free0}
 use types.Share.{arr_parts}
 use sound.WpLaws.{FmC, fm_of, WpFn-mono}
 use denote.RattleType.{owns}
@@ -39,7 +39,7 @@ use denote.Triple.Entry.{Args, Vals, on_entry}
 use denote.Triple.Spec.{Meets, triple_of}
 use denote.Triple.Table.{entered, cited}
 use denote.Triple.Clauses.{Lasts, at_exit, ensured, lasts}
-use denote.Triple.Walked.{Stay, Stays, stay_dropped, gave_ref, walk_of, Goes-dropped, Goes-gave_ref, Walks, ends_at, walked, walk_Meets}
+use denote.Triple.Walked.{Stay, Stays, stay_dropped, gave_ref, walk_of, Goes-dropped, Goes-gave_ref, Walks, endsAt, walked, walk_Meets}
 use denote.Exit.{yes}
 use Rattle.params.specs.contracts.looking.lookup_together as together
 use Rattle.params.proofs.looking.lookup_together.Symbol as together-def
@@ -154,7 +154,7 @@ module _ {M : Type 1} {𝓤 : Ura M} (𝓛 : Logic 𝓤) (mem : Memory → SProp
   exits r u =
       qed 𝓛 (‵ (Short r (u ∷ [])) ∷ raw (Ensured r) ∷ alive ∷ ‵ others ∷ []) ∵ move ! (1 ∷ []) $
       use1 𝓛 (some (λ (ws : Lasts together.ended shorter a). ‵ (lasts together.ended shorter a ws) ⊛ raw ((together.clauses 𝓛 mem run shorter a).ensures tt r (at_exit together.ended shorter a ws)))) (id⊢ 𝓤 _) $ pick ! (λ ws. split ! $
-      suffices ! _ (ends_at 𝓛 lookup.ended stayed (lookup.clauses 𝓛 mem run) bound u r ws (tt, (tt, (tt, (tt, (tt, (tt, (tt, (tt, (tt, tt)))))))))) $
+      suffices ! _ (endsAt 𝓛 lookup.ended stayed (lookup.clauses 𝓛 mem run) bound u r ws (tt, (tt, (tt, (tt, (tt, (tt, (tt, (tt, (tt, tt)))))))))) $
       -- [the last values; what is ensured; the result; the callee's tokens; the others]
       move ! (3 ∷ []) $ split ! $ move ! (1 ∷ []) $ split ! $ move ! (1 ∷ []) $ split ! $ move ! (1 ∷ []) $ split ! $
       -- [κ₃; nothing; κ₂; κ₁; κr; the last values; what is ensured; the result; the others]
@@ -183,7 +183,7 @@ module _ {M : Type 1} {𝓤 : Ura M} (𝓛 : Logic 𝓤) (mem : Memory → SProp
         calls_at ! fm (Together 𝓛 mem run) known to
         (and_then ! (load ! (from ! (stop !)) (look ! 24 refl)) (and_then ! (load ! (from ! (stop !)) (look ! 22 refl)) (and_then ! (load ! (from ! (stop !)) (look ! 20 refl)) (and_then ! (load ! (from ! (stop !)) (look ! 18 refl))
         (and_then ! (load ! (from ! (stop !)) (look ! 16 refl)) (and_then ! (load ! (from ! (stop !)) (look ! 14 refl)) (and_then ! (load ! (from ! (stop !)) (look ! 6 refl)) (and_then ! (load ! (from ! (stop !)) (look ! 4 refl))
-        (and_then ! (load ! (from ! (stop !)) (look ! 2 refl)) (no_more !)))))))))) (λ u.
+        (and_then ! (load ! (from ! (stop !)) (look ! 2 refl)) (no-more !)))))))))) (λ u.
         use1 𝓛 (later (some (λ (r : Bytes). (alive ⊛ ‵ (Short r (u ∷ []))) ⊛ raw (Ensured r)))) (id⊢ 𝓤 _) $ await ! tt $ pick ! (λ r. split ! $ split ! $ move ! (1 ∷ 2 ∷ []) $
         -- [the result; what is ensured; the callee's tokens; the others; _12; …; and so on]
         peeks ! (ShrSlice (named 0) κr u8) (Is (ShrSlice (named 0) κr u8)) (shows 𝓛 (ShrSlice (named 0) κr u8)) r (u ∷ []) (λ is.

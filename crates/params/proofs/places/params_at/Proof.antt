@@ -1,5 +1,5 @@
 use borrow.Author.Rules.{rules}
-use Rattle.params.proofs.EntriesInside.{sheet-long, up-to-most, params_below, params-behind}
+use Rattle.params.proofs.EntriesInside.{sheet-long, up-to-most, params-below, params-behind}
 use Rattle.params.proofs.places.params_at.Statement.{statement}
 use Rattle.params.proofs.places.params_at.Tie as tie
 
@@ -10,7 +10,7 @@ place-of-requires : tie.Need-place-of-requires
 place-of-requires c κs = search rules
 
 returns : tie.Need-returns
-returns c = search params_below
+returns c = search params-below
 
 place-of-requires-2 : tie.Need-place-of-requires-2
 place-of-requires-2 c κs = search up-to-most

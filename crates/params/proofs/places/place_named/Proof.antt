@@ -1,6 +1,6 @@
 use Prim.Native.Nat.{◌-◌}
 use Rattle.tokenizer.specs.KeyText.{keyText}
-use Rattle.params.proofs.EntriesInside.{Seeking, sheet-long, seek-start, seek-entry, seek-body, seek-lengths, seek-name, seek_found, seek-less, seek-more, seek-end}
+use Rattle.params.proofs.EntriesInside.{Seeking, sheet-long, seek-start, seek-entry, seek-body, seek-lengths, seek-name, seek-found, seek-less, seek-more, seek-end}
 use Rattle.params.proofs.places.place_named.Statement.{statement}
 use Rattle.params.proofs.places.place_named.Tie as tie
 
@@ -23,7 +23,7 @@ is-named-at-requires : tie.Need-is-named-at-requires invariant-loop decreases-lo
 is-named-at-requires c κs = search (seek-lengths, seek-name)
 
 returns : tie.Need-returns invariant-loop decreases-loop
-returns c = search seek_found
+returns c = search seek-found
 
 place-past-requires : tie.Need-place-past-requires invariant-loop decreases-loop
 place-past-requires c κs = search (seek-entry, seek-body, seek-lengths)

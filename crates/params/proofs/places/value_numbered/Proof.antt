@@ -1,5 +1,5 @@
 use borrow.Author.Rules.{rules}
-use Rattle.params.proofs.EntriesInside.{sheet-long, stands, value-numbered, value_none}
+use Rattle.params.proofs.EntriesInside.{sheet-long, stands, value-numbered, value-none}
 use Rattle.params.proofs.places.value_numbered.Statement.{statement}
 use Rattle.params.proofs.places.value_numbered.Tie as tie
 
@@ -19,7 +19,7 @@ own-text-requires : tie.Need-own-text-requires
 own-text-requires c κs = search rules
 
 returns-2 : tie.Need-returns-2
-returns-2 c = search value_none
+returns-2 c = search value-none
 
 pub value-numbered-spec : {M : Type 1} → statement M
 value-numbered-spec =

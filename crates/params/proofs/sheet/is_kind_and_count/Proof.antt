@@ -1,5 +1,5 @@
 use borrow.Author.Rules.{rules}
-use Rattle.params.proofs.SheetContents.{high-kind, some-kind, no_kind}
+use Rattle.params.proofs.SheetContents.{high-kind, some-kind, no-kind}
 use Rattle.params.proofs.sheet.is_kind_and_count.Statement.{statement}
 use Rattle.params.proofs.sheet.is_kind_and_count.Tie as tie
 
@@ -19,7 +19,7 @@ count-of-requires : tie.Need-count-of-requires
 count-of-requires c κs = search rules
 
 returns-3 : tie.Need-returns-3
-returns-3 c = search no_kind
+returns-3 c = search no-kind
 
 pub is-kind-and-count-spec : {M : Type 1} → statement M
 is-kind-and-count-spec =

@@ -1,6 +1,6 @@
 use borrow.Author.Rules.{rules}
 use mathlib.Core.Path.{refl}
-use Rattle.params.specs.Sheet.{isNamed, kind_of}
+use Rattle.params.specs.Sheet.{isNamed, kindOf}
 use Rattle.params.proofs.sheet.is_named.Statement.{statement}
 use Rattle.params.proofs.sheet.is_named.Tie as tie
 
@@ -8,7 +8,7 @@ shared-slice-read-result : tie.Need-shared-slice-read-result
 shared-slice-read-result c = search rules
 
 returns : tie.Need-returns
-unfolding isNamed kind_of
+unfolding isNamed kindOf
 returns c = refl
 
 pub is-named-spec : {M : Type 1} → statement M

@@ -1,10 +1,10 @@
 use borrow.Author.Rules.{rules}
-use Rattle.params.proofs.SheetEntries.{too_short, overlong, sheet-told, wrong-kind}
+use Rattle.params.proofs.SheetEntries.{too-short, overlong, sheet-told, wrong-kind}
 use Rattle.params.proofs.sheet.is_sheet.Statement.{statement}
 use Rattle.params.proofs.sheet.is_sheet.Tie as tie
 
 returns : tie.Need-returns
-returns c = search too_short
+returns c = search too-short
 
 returns-2 : tie.Need-returns-2
 returns-2 c = search overlong

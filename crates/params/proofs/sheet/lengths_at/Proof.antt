@@ -1,5 +1,5 @@
 use borrow.Author.Rules.{rules}
-use Rattle.params.proofs.SheetContents.{some-sheet, named-room, value_room, unnamed-room, named-lengths, unnamed-lengths}
+use Rattle.params.proofs.SheetContents.{some-sheet, named-room, value-room, unnamed-room, named-lengths, unnamed-lengths}
 use Rattle.params.proofs.sheet.lengths_at.Statement.{statement}
 use Rattle.params.proofs.sheet.lengths_at.Tie as tie
 
@@ -13,7 +13,7 @@ add-le16-at : tie.Need-overflow-add-le16-at
 add-le16-at c = search rules
 
 le16-at-requires-2 : tie.Need-le16-at-requires-2
-le16-at-requires-2 c κs = search value_room
+le16-at-requires-2 c κs = search value-room
 
 returns : tie.Need-returns
 returns c = search (named-lengths, rules)

@@ -1,5 +1,5 @@
 use borrow.Author.Rules.{rules}
-use Rattle.params.proofs.SheetContents.{some-sheet, past_is}
+use Rattle.params.proofs.SheetContents.{some-sheet, past-is}
 use Rattle.params.proofs.sheet.place_past.Statement.{statement}
 use Rattle.params.proofs.sheet.place_past.Tie as tie
 
@@ -22,7 +22,7 @@ add-t8 : tie.Need-overflow-add-t8
 add-t8 c = search rules
 
 returns : tie.Need-returns
-returns c = search past_is
+returns c = search past-is
 
 pub place-past-spec : {M : Type 1} → statement M
 place-past-spec =

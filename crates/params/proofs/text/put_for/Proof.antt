@@ -1,5 +1,5 @@
 use borrow.Author.Rules.{rules}
-use Rattle.params.proofs.PartBytes.{value_room, value-length, value-put}
+use Rattle.params.proofs.PartBytes.{value-room, value-length, value-put}
 use Rattle.params.proofs.text.put_for.Statement.{statement}
 use Rattle.params.proofs.text.put_for.Tie as tie
 
@@ -16,7 +16,7 @@ returns : tie.Need-returns
 returns c = search rules
 
 put-from-requires : tie.Need-put-from-requires
-put-from-requires c κs = (search rules, search value_room)
+put-from-requires c κs = (search rules, search value-room)
 
 add-result : tie.Need-overflow-add-result
 add-result c = search rules

@@ -1,4 +1,4 @@
-use Rattle.recognisers.proofs.CommentLoops.{line-feed, carriage-return, lone-return, line_on, line-end}
+use Rattle.recognisers.proofs.CommentLoops.{line-feed, carriage-return, lone-return, line-on, line-end}
 use Rattle.recognisers.proofs.comment.till_line_ending.Goals as goal
 
 pub returns-then-b-eq10 : goal.returns-then-b-eq10
@@ -11,7 +11,7 @@ pub returns-then-b-eq13 : goal.returns-then-b-eq13
 returns-then-b-eq13 c = search lone-return
 
 pub loop-i-preserved : goal.loop-i-preserved
-loop-i-preserved c = search line_on
+loop-i-preserved c = search line-on
 
 pub returns : goal.returns
 returns c = search line-end

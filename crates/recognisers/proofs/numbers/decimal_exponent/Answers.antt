@@ -3,7 +3,7 @@ use Rattle.recognisers.proofs.Digits.{exponent-inside, fraction-inside}
 use Rattle.recognisers.specs.Taking.{typed, spelled, digit0}
 use Rattle.recognisers.specs.Number.{decimalNumber, exponent}
 use Rattle.recognisers.proofs.Digits.{digits-fit, digit1-none, digit1-then}
-use Rattle.recognisers.proofs.TakenInside.{fits_more}
+use Rattle.recognisers.proofs.TakenInside.{fits-more}
 use Rattle.recognisers.proofs.numbers.decimal_exponent.Goals as goal
 
 pub returns-then-n-eq0 : goal.returns-then-n-eq0
@@ -17,7 +17,7 @@ pub slice_bounds-point_fraction_exponent-start : goal.slice_bounds-point_fractio
 slice_bounds-point_fraction_exponent-start c = search (digits-fit (spelled typed (bytes ".") (digit0 exponent)))
 
 pub n_more-requires : goal.n_more-requires
-n_more-requires c = search (fits_more (spelled typed (bytes ".") (digit0 exponent)) (fraction-inside exponent exponent-inside), digits-fit (spelled typed (bytes ".") (digit0 exponent)))
+n_more-requires c = search (fits-more (spelled typed (bytes ".") (digit0 exponent)) (fraction-inside exponent exponent-inside), digits-fit (spelled typed (bytes ".") (digit0 exponent)))
 
 pub returns : goal.returns
 unfolding decimalNumber

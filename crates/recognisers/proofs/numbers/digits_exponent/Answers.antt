@@ -1,7 +1,7 @@
 use Rattle.recognisers.proofs.Digits.{exponent-inside}
 use Rattle.recognisers.specs.Number.{exponent}
 use Rattle.recognisers.proofs.Digits.{digits-fit, digit1-none, digit1-then}
-use Rattle.recognisers.proofs.TakenInside.{fits_more}
+use Rattle.recognisers.proofs.TakenInside.{fits-more}
 use Rattle.recognisers.proofs.numbers.digits_exponent.Goals as goal
 
 pub returns-then-n-eq0 : goal.returns-then-n-eq0
@@ -14,7 +14,7 @@ pub slice_bounds-exponent_taken-start : goal.slice_bounds-exponent_taken-start
 slice_bounds-exponent_taken-start c = search (digits-fit exponent)
 
 pub n_more-requires : goal.n_more-requires
-n_more-requires c = search (fits_more exponent exponent-inside, digits-fit exponent)
+n_more-requires c = search (fits-more exponent exponent-inside, digits-fit exponent)
 
 pub returns : goal.returns
 returns c = search (digit1-then exponent)

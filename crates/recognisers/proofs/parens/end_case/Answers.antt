@@ -1,13 +1,13 @@
 use Rattle.recognisers.proofs.Blanks.{end-case-yes, end-case-no, end-case-fits}
 use Rattle.recognisers.specs.Taking.{capital, done}
-use Rattle.recognisers.proofs.Spelling.{word_fits}
+use Rattle.recognisers.proofs.Spelling.{word-fits}
 use Rattle.recognisers.proofs.parens.end_case.Goals as goal
 
 pub slice_bounds-blanks_then_word-count : goal.slice_bounds-blanks_then_word-count
-slice_bounds-blanks_then_word-count c = search (word_fits capital done)
+slice_bounds-blanks_then_word-count c = search (word-fits capital done)
 
 pub slice_bounds-blanks_then_word-start : goal.slice_bounds-blanks_then_word-start
-slice_bounds-blanks_then_word-start c = search (word_fits capital done)
+slice_bounds-blanks_then_word-start c = search (word-fits capital done)
 
 pub n_more-requires : goal.n_more-requires
 n_more-requires c = search end-case-fits

@@ -1,7 +1,7 @@
 use Rattle.recognisers.proofs.PlaceholderLaws.{name-inside}
 use Rattle.recognisers.specs.Placeholder.{placeholderName}
 use Rattle.recognisers.proofs.Digits.{marked-fits, marked-then, marked-not}
-use Rattle.recognisers.proofs.TakenInside.{fits_more}
+use Rattle.recognisers.proofs.TakenInside.{fits-more}
 use Rattle.recognisers.proofs.placeholders.marked_name.Goals as goal
 
 pub slice_bounds-placeholder_name-count : goal.slice_bounds-placeholder_name-count
@@ -11,7 +11,7 @@ pub slice_bounds-placeholder_name-start : goal.slice_bounds-placeholder_name-sta
 slice_bounds-placeholder_name-start c = search (marked-fits placeholderName)
 
 pub n_more-requires : goal.n_more-requires
-n_more-requires c = search (fits_more placeholderName name-inside, marked-fits placeholderName)
+n_more-requires c = search (fits-more placeholderName name-inside, marked-fits placeholderName)
 
 pub returns-then-starts_among : goal.returns-then-starts_among
 returns-then-starts_among c = search (marked-then placeholderName)

@@ -1,8 +1,8 @@
-use Rattle.recognisers.proofs.ClosingQuote.{closed-fits, closed_is}
+use Rattle.recognisers.proofs.ClosingQuote.{closed-fits, closed-is}
 use Rattle.recognisers.proofs.strings.closed_by.Goals as goal
 
 pub n_more-requires : goal.n_more-requires
 n_more-requires c = search closed-fits
 
 pub returns : goal.returns
-returns c = search closed_is
+returns c = search closed-is

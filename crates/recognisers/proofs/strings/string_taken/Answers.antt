@@ -1,5 +1,5 @@
 use Rattle.std.proofs.Common.{rules}
-use Rattle.recognisers.proofs.StringOpeners.{single-is, double-is, tick_is, bracket-is, other-is, unquoted-is}
+use Rattle.recognisers.proofs.StringOpeners.{single-is, double-is, tick-is, bracket-is, other-is, unquoted-is}
 use Rattle.recognisers.proofs.Unclosed.{hint-inside, double-known, single-known}
 use Rattle.recognisers.proofs.strings.string_taken.Goals as goal
 
@@ -22,7 +22,7 @@ pub returns-then-stands_at-2 : goal.returns-then-stands_at-2
 returns-then-stands_at-2 c = search double-is
 
 pub returns-then-stands_at-3 : goal.returns-then-stands_at-3
-returns-then-stands_at-3 c = search tick_is
+returns-then-stands_at-3 c = search tick-is
 
 pub returns-then-stands_at-4 : goal.returns-then-stands_at-4
 returns-then-stands_at-4 c = search bracket-is

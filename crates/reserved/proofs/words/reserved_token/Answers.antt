@@ -1,4 +1,4 @@
-use Rattle.reserved.proofs.EntryTokens.{entry_length, entry-none}
+use Rattle.reserved.proofs.EntryTokens.{entry-length, entry-none}
 use Rattle.reserved.proofs.LoneDollar.{lone-dollar}
 use Rattle.reserved.proofs.words.reserved_token.Goals as goal
 
@@ -9,4 +9,4 @@ pub returns-then-n-eq0 : goal.returns-then-n-eq0
 returns-then-n-eq0 c = search entry-none
 
 pub token_for-requires : goal.token_for-requires
-token_for-requires c = search entry_length
+token_for-requires c = search entry-length

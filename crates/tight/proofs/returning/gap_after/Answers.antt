@@ -1,8 +1,8 @@
-use Rattle.tight.proofs.GapSorts.{after_line, after-return, after-plain}
+use Rattle.tight.proofs.GapSorts.{after-line, after-return, after-plain}
 use Rattle.tight.proofs.returning.gap_after.Goals as goal
 
 pub returns-then-is_kind : goal.returns-then-is_kind
-returns-then-is_kind c = search after_line
+returns-then-is_kind c = search after-line
 
 pub returns-then-is_returning : goal.returns-then-is_returning
 returns-then-is_returning c = search after-return
