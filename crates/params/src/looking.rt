@@ -139,7 +139,9 @@ pub fn lookup<'r, 's: 'r, 'v: 'r>(
     ensures number_after { number.new ≡ lookupNumber statement.now dialect joins named sheet.now }
     ensures detail_after { detail.new ≡ lookupDetail statement.now dialect joins named sheet.now place counter.old }
 {
+    let near: &'r [u8] = statement;
+    let far: &'r [u8] = sheet;
     lookup_together(
-        statement, dialect, joins, named, sheet, place, counter, number, detail,
+        near, dialect, joins, named, far, place, counter, number, detail,
     )
 }

@@ -1,0 +1,5 @@
+use Rattle.params.proofs.EntriesInside.{name-told}
+use Rattle.params.proofs.places.is_named_at.Goals as goal
+
+pub returns : goal.returns
+returns c = search name-told

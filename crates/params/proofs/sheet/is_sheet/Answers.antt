@@ -1,0 +1,14 @@
+use Rattle.params.proofs.SheetEntries.{too-short, overlong, sheet-told, wrong-kind}
+use Rattle.params.proofs.sheet.is_sheet.Goals as goal
+
+pub returns-then-sheet-lt3 : goal.returns-then-sheet-lt3
+returns-then-sheet-lt3 c = search too-short
+
+pub returns-then-sheet-gt65536 : goal.returns-then-sheet-gt65536
+returns-then-sheet-gt65536 c = search overlong
+
+pub returns-then-is_kind_and_count : goal.returns-then-is_kind_and_count
+returns-then-is_kind_and_count c = search sheet-told
+
+pub returns : goal.returns
+returns c = search wrong-kind
