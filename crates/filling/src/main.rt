@@ -8,8 +8,11 @@
 // beyond that is read past, since the statement behind it decides whether 1 or 2 comes before the sheet's 5.
 #![tactic(auto)]
 
-ghost use Rattle.std.specs.Prelude.{◌≡◌, ◌≤◌, IfOk, length};
+ghost use Rattle.std.specs.Prelude.{◌≡◌, ◌≤◌, ◌<◌, Some, IfSome, IfOk, OnOk, length, take, min};
 ghost use Rattle.std.specs.Io.{ReadsAtMost};
+ghost use Rattle.std.specs.Io.KnownBytes.{Appends, Consumes, IsAtEnd};
+ghost use Rattle.filling.specs.Input.{Skips, sheet_of, statement_of};
+ghost use Rattle.filling.specs.Printed.{fill_printed};
 
 use calls::le32_at;
 use console::{print_answer, read_text, text_space};
@@ -22,7 +25,9 @@ fn print_filled<W: Write>(
     statement: &[u8],
     sheet: &[u8],
     space: &mut [u8],
-) -> io::Result<()> {
+) -> io::Result<()>
+    ensures { OnOk result (Appends (W.contents output.old) (W.contents output.new) (fill_printed statement.now sheet.now (length space.old))) }
+{
     let answer = fill(statement, 0, 0, 0, sheet, space);
     print_answer(output, answer, space)
 }
@@ -30,6 +35,7 @@ fn print_filled<W: Write>(
 fn least(a: usize, b: usize) -> usize
     ensures upper_bound { result ≤ a }
     ensures upper_bound_2 { result ≤ b }
+    ensures value { result ≡ min a b }
 {
     if a < b { a } else { b }
 }
@@ -38,6 +44,8 @@ fn least(a: usize, b: usize) -> usize
 fn read_up_to<R: Read>(input: &mut R, most: usize, space: &mut [u8]) -> io::Result<usize>
     ensures upper_bound { IfOk result (λ n. n ≤ most) }
     ensures prefix_len { ReadsAtMost result space.new }
+    ensures bytes { IfOk result (λ n. Consumes (R.remaining input.old) (R.remaining input.new) (take n space.new)) }
+    ensures end { IfOk result (λ n. n < most → n < length space.new → IsAtEnd (R.remaining input.new)) }
 {
     let len = least(most, space.len());
     read_text(input, &mut space[..len])
@@ -45,14 +53,18 @@ fn read_up_to<R: Read>(input: &mut R, most: usize, space: &mut [u8]) -> io::Resu
 
 // Reads at most so many bytes, keeps none, and answers how many there were.
 fn read_past_piece<R: Read>(input: &mut R, most: usize) -> io::Result<usize>
-    ensures { IfOk result (λ n. n ≤ most) }
+    ensures upper_bound { IfOk result (λ n. n ≤ most) }
+    ensures bytes { IfOk result (λ n. Skips (R.remaining input.old) (R.remaining input.new) n) }
+    ensures end { IfOk result (λ n. n ≡ 0 → 0 < most → IsAtEnd (R.remaining input.new)) }
 {
     let mut space = [0; 65536];
     read_up_to(input, most, &mut space)
 }
 
 // Reads past so many bytes, or to the end of the input.
-fn read_past<R: Read>(input: &mut R, count: usize) -> io::Result<()> {
+fn read_past<R: Read>(input: &mut R, count: usize) -> io::Result<()>
+    ensures { OnOk result (Skips (R.remaining input.old) (R.remaining input.new) count) }
+{
     let mut left = count;
     while left > 0 {
         let n = read_past_piece(input, left)?;
@@ -66,7 +78,9 @@ fn read_past<R: Read>(input: &mut R, count: usize) -> io::Result<()> {
 
 // Reads the sheet's length and the whole sheet, and answers how many bytes of it are kept.
 fn read_sheet<R: Read>(input: &mut R, kept: &mut [u8]) -> io::Result<usize>
-    ensures { ReadsAtMost result kept.new }
+    ensures prefix_len { ReadsAtMost result kept.new }
+    ensures sheet { 4 ≤ length kept.new → IfOk result (λ n. IfSome (R.remaining input.old) (λ xs. take n kept.new ≡ take (length kept.new) (sheet_of xs))) }
+    ensures statement { 4 ≤ length kept.new → OnOk result (IfSome (R.remaining input.old) (λ xs. R.remaining input.new ≡ Some (statement_of xs))) }
 {
     let n = read_up_to(input, 4, kept)?;
     if n < 4 {
@@ -84,7 +98,10 @@ fn output_space() -> [u8; 131072]
     [0; 131072]
 }
 
-fn answer<R: Read, W: Write>(input: &mut R, output: &mut W) -> io::Result<()> {
+fn answer<R: Read, W: Write>(input: &mut R, output: &mut W) -> io::Result<()>
+    ensures { OnOk result (IfSome (R.remaining input.old) (λ whole.
+        Appends (W.contents output.old) (W.contents output.new) (fill_printed (statement_of whole) (sheet_of whole) 131072))) }
+{
     let mut sheet = text_space();
     let mut statement = text_space();
     let mut space = output_space();
