@@ -1,0 +1,3 @@
+-- What is printed of the tokens, one after the other, and of a statement.
+mod Lines
+mod Statements
