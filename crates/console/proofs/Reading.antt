@@ -6,8 +6,8 @@ use Rattle.std.proofs.KnownBytes.{Consumes-trans}
 use borrow.Rule.Slice.PartMut.{put_mid, post_of}
 use lib.Seq.{take-add, take-append-le}
 
-take_split : (a b : ℕ) (old new : List ℕ) → a ≤ b → take a new ≡ take a old → take a old ++ slice_range new a b ≡ take b new
-take_split a b old new h front =
+take-split : (a b : ℕ) (old new : List ℕ) → a ≤ b → take a new ≡ take a old → take a old ++ slice_range new a b ≡ take b new
+take-split a b old new h front =
     let same : a + (b - a) ≡ b = omega arith in
     ap (λ l. l ++ slice_range new a b) (sym front) ∙ sym (take-add a (b - a) new) ∙ ap (λ n. take n new) same
 
@@ -24,5 +24,5 @@ pub Consumes-next : (a b c : Option (List ℕ)) (from n : ℕ) (space read : Lis
 Consumes-next a b c from n space read within fits before more =
     let room = length space - from in
     let part = slice_range-put_mid from room n space read within fits in
-    let joined = take_split from (from + n) space (put_mid from room space read) (omega arith) (take-put_mid_below _ _ _ _ _ (le_refl _) within) in
+    let joined = take-split from (from + n) space (put_mid from room space read) (omega arith) (take-put_mid_below _ _ _ _ _ (le_refl _) within) in
     subst (Consumes a c) (ap (λ l. take from space ++ l) (sym part) ∙ joined) (Consumes-trans _ _ _ _ _ before more)

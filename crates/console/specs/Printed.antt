@@ -14,18 +14,18 @@ abbrev pub WrittenInside : TextAnswer → ℕ → Type 0
 WrittenInside (Written n) room = n ≤ room
 WrittenInside (Refused refusal) room = Unit {0}
 
-abbrev pub refusal_line : Refusal → List ℕ
-refusal_line refusal = codes "refused " ++ decimal (refusalNumber refusal) ++ codes "\n"
+abbrev pub refusalLine : Refusal → List ℕ
+refusalLine refusal = codes "refused " ++ decimal (refusalNumber refusal) ++ codes "\n"
 
 -- what is printed of an answer and of the output that the call wrote
-abbrev pub answer_text : TextAnswer → List ℕ → List ℕ
-answer_text (Written n) output = take n output
-answer_text (Refused refusal) output = refusal_line refusal
+abbrev pub answerText : TextAnswer → List ℕ → List ℕ
+answerText (Written n) output = take n output
+answerText (Refused refusal) output = refusalLine refusal
 
 -- what is printed of a text, for an output of so many bytes
-abbrev pub text_printed : List ℕ → ℕ → List ℕ
-text_printed text room = cond (ltb room (length text)) (refusal_line (OutputFull (length text))) text
+abbrev pub textPrinted : List ℕ → ℕ → List ℕ
+textPrinted text room = cond (ltb room (length text)) (refusalLine (OutputFull (length text))) text
 
 -- the same of a call whose text depends on the settings
-unfoldable pub call_printed : (Settings → List ℕ) → ℕ → Checked → List ℕ
-call_printed text room = acceptedOr (λ settings. text_printed (text settings) room) refusal_line
+unfoldable pub callPrinted : (Settings → List ℕ) → ℕ → Checked → List ℕ
+callPrinted text room = acceptedOr (λ settings. textPrinted (text settings) room) refusalLine

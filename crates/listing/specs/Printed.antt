@@ -1,7 +1,7 @@
 -- What is printed of a statement: its tokens under the default settings, or the refusal's line.
 use Rattle.std.specs.Prelude.{ℕ, List, [], ◌∷◌, ◌++◌, length, codes, decimal}
 use Rattle.calls.specs.Checks.{checked, acceptedOr}
-use Rattle.console.specs.Printed.{refusal_line}
+use Rattle.console.specs.Printed.{refusalLine}
 use Rattle.recognisers.specs.Kinds.{kindNumber}
 use Rattle.tokenizer.specs.declared.KeyWords.{KeyWords}
 use Rattle.tokenizer.specs.declared.Token.{Token}
@@ -10,26 +10,26 @@ use Rattle.tokenizer.specs.Records.{keyWords}
 use Rattle.tokenizer.specs.Tokens.{tokens}
 
 -- a field behind another
-abbrev pub next_field : ℕ → List ℕ
-next_field n = codes " " ++ decimal n
+abbrev pub nextField : ℕ → List ℕ
+nextField n = codes " " ++ decimal n
 
-abbrev pub key_fields : KeyWords → List ℕ
-key_fields key = next_field key.kind ++ next_field key.a ++ next_field key.b
+abbrev pub keyFields : KeyWords → List ℕ
+keyFields key = nextField key.kind ++ nextField key.a ++ nextField key.b
 
-abbrev pub place_fields : Token → List ℕ
-place_fields t = decimal (kindNumber t.kind) ++ next_field t.start ++ next_field t.len ++ next_field t.alias
+abbrev pub placeFields : Token → List ℕ
+placeFields t = decimal (kindNumber t.kind) ++ nextField t.start ++ nextField t.len ++ nextField t.alias
 
 -- a token's line, at a level
-unfoldable pub token_line : ℕ → Token → List ℕ
-token_line level t = place_fields t ++ key_fields (keyWords t.key) ++ next_field level ++ codes "\n"
+unfoldable pub tokenLine : ℕ → Token → List ℕ
+tokenLine level t = placeFields t ++ keyFields (keyWords t.key) ++ nextField level ++ codes "\n"
 
 -- the lines of tokens, from a level on
-unfoldable pub lines_from : ℕ → List Token → List ℕ
-lines_from level [] = []
-lines_from level (t ∷ ts) = token_line level t ++ lines_from (levelPast level t.kind) ts
+unfoldable pub linesFrom : ℕ → List Token → List ℕ
+linesFrom level [] = []
+linesFrom level (t ∷ ts) = tokenLine level t ++ linesFrom (levelPast level t.kind) ts
 
 abbrev pub listed : List Token → List ℕ
-listed ts = codes "tokens " ++ decimal (length ts) ++ codes "\n" ++ lines_from 0 ts
+listed ts = codes "tokens " ++ decimal (length ts) ++ codes "\n" ++ linesFrom 0 ts
 
-unfoldable pub listing_printed : List ℕ → List ℕ
-listing_printed s = acceptedOr (λ settings. listed (tokens settings s)) refusal_line (checked 0 0 0 s)
+unfoldable pub listingPrinted : List ℕ → List ℕ
+listingPrinted s = acceptedOr (λ settings. listed (tokens settings s)) refusalLine (checked 0 0 0 s)

@@ -5,7 +5,7 @@
 ghost use Rattle.std.specs.Prelude.{IfSome, OnOk};
 ghost use Rattle.std.specs.Io.KnownBytes.{Appends};
 ghost use Rattle.tokenizer.specs.Tokens.{tokens};
-ghost use Rattle.listing.specs.Printed.{key_fields, place_fields, token_line, lines_from, listed, listing_printed};
+ghost use Rattle.listing.specs.Printed.{keyFields, placeFields, tokenLine, linesFrom, listed, listingPrinted};
 
 use calls::{Checked, Settings, check};
 use console::{print, print_next, print_number, print_refusal, read_text, text_space};
@@ -14,7 +14,7 @@ use std::io::{BufWriter, Read, Write};
 use tokenizer::{KeyWords, Step, Token};
 
 fn print_key<W: Write>(output: &mut W, key: KeyWords) -> io::Result<()>
-    ensures { OnOk result (Appends (W.contents output.old) (W.contents output.new) (key_fields key)) }
+    ensures { OnOk result (Appends (W.contents output.old) (W.contents output.new) (keyFields key)) }
 {
     print_next(output, key.kind)?;
     print_next(output, key.a)?;
@@ -22,7 +22,7 @@ fn print_key<W: Write>(output: &mut W, key: KeyWords) -> io::Result<()>
 }
 
 fn print_place<W: Write>(output: &mut W, token: Token) -> io::Result<()>
-    ensures { OnOk result (Appends (W.contents output.old) (W.contents output.new) (place_fields token)) }
+    ensures { OnOk result (Appends (W.contents output.old) (W.contents output.new) (placeFields token)) }
 {
     print_number(output, recognisers::kind_number(token.kind))?;
     print_next(output, token.start as u64)?;
@@ -31,7 +31,7 @@ fn print_place<W: Write>(output: &mut W, token: Token) -> io::Result<()>
 }
 
 fn print_token<W: Write>(output: &mut W, token: Token, level: usize) -> io::Result<()>
-    ensures { OnOk result (Appends (W.contents output.old) (W.contents output.new) (token_line level token)) }
+    ensures { OnOk result (Appends (W.contents output.old) (W.contents output.new) (tokenLine level token)) }
 {
     print_place(output, token)?;
     print_key(output, tokenizer::key_words(token.key))?;
@@ -40,7 +40,7 @@ fn print_token<W: Write>(output: &mut W, token: Token, level: usize) -> io::Resu
 }
 
 fn print_tokens<W: Write>(output: &mut W, statement: &[u8], settings: Settings) -> io::Result<()>
-    ensures { OnOk result (Appends (W.contents output.old) (W.contents output.new) (lines_from 0 (tokens settings statement.now))) }
+    ensures { OnOk result (Appends (W.contents output.old) (W.contents output.new) (linesFrom 0 (tokens settings statement.now))) }
 {
     let mut level = 0;
     let mut hints = recognisers::no_hints();
@@ -70,7 +70,7 @@ fn list<W: Write>(output: &mut W, statement: &[u8], settings: Settings) -> io::R
 }
 
 fn print_listing<W: Write>(output: &mut W, statement: &[u8]) -> io::Result<()>
-    ensures { OnOk result (Appends (W.contents output.old) (W.contents output.new) (listing_printed statement.now)) }
+    ensures { OnOk result (Appends (W.contents output.old) (W.contents output.new) (listingPrinted statement.now)) }
 {
     match check(statement, 0, 0, 0) {
         Checked::Accepted(settings) => list(output, statement, settings),
@@ -80,7 +80,7 @@ fn print_listing<W: Write>(output: &mut W, statement: &[u8]) -> io::Result<()>
 
 // Of a longer statement than a call accepts enough is read that it is refused as the whole is.
 fn answer<R: Read, W: Write>(input: &mut R, output: &mut W) -> io::Result<()>
-    ensures { OnOk result (IfSome (R.remaining input.old) (λ statement. Appends (W.contents output.old) (W.contents output.new) (listing_printed statement))) }
+    ensures { OnOk result (IfSome (R.remaining input.old) (λ statement. Appends (W.contents output.old) (W.contents output.new) (listingPrinted statement))) }
 {
     let mut space = text_space();
     let n = read_text(input, &mut space)?;

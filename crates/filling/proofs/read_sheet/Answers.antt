@@ -1,7 +1,7 @@
 use Rattle.std.proofs.Common.{rules, ◌≡◌, ◌≤◌, ◌<◌, ◌-◌, take, length, sym, ap, ◌∙◌, subst}
-use Rattle.calls.specs.LittleEndian.{number_at}
+use Rattle.calls.specs.LittleEndian.{numberAt}
 use Rattle.filling.specs.Input.{Skips}
-use Rattle.filling.proofs.Sheets.{sheet-read, statement-left, number_at-front}
+use Rattle.filling.proofs.Sheets.{sheet-read, statement-left, numberAt-front}
 use Rattle.filling.proofs.read_sheet.Goals as goal
 
 pub returns-clause-sheet : goal.returns-clause-sheet
@@ -9,8 +9,8 @@ returns-clause-sheet g c = λ long.
     let first = c.in_ok-n.ensures in
     let got = c.in_ok-got.ensures in
     let four : c.in_ok-n.n ≡ 4 = search rules in
-    let front : c.le32_at-len.result ≡ number_at 4 (take c.in_ok-n.n c.read_up_to.new.space) 0 =
-    c.le32_at-len.ensures.value ∙ number_at-front c.read_up_to.new.space (search rules) ∙ ap (λ n. number_at 4 (take n c.read_up_to.new.space) 0) (sym four) in
+    let front : c.le32_at-len.result ≡ numberAt 4 (take c.in_ok-n.n c.read_up_to.new.space) 0 =
+    c.le32_at-len.ensures.value ∙ numberAt-front c.read_up_to.new.space (search rules) ∙ ap (λ n. numberAt 4 (take n c.read_up_to.new.space) 0) (sym four) in
     let many = got.prefix_len.1 in
     sheet-read _ _ _ _ _ _ _ (sym first.prefix_len.1 ∙ four) first.bytes got.bytes front
     (subst (λ n. n ≤ c.le32_at-len.result) many got.upper_bound)
@@ -22,8 +22,8 @@ returns-clause-statement g c = λ long.
     let first = c.in_ok-n.ensures in
     let got = c.in_ok-got.ensures in
     let four : c.in_ok-n.n ≡ 4 = search rules in
-    let front : c.le32_at-len.result ≡ number_at 4 (take c.in_ok-n.n c.read_up_to.new.space) 0 =
-    c.le32_at-len.ensures.value ∙ number_at-front c.read_up_to.new.space (search rules) ∙ ap (λ n. number_at 4 (take n c.read_up_to.new.space) 0) (sym four) in
+    let front : c.le32_at-len.result ≡ numberAt 4 (take c.in_ok-n.n c.read_up_to.new.space) 0 =
+    c.le32_at-len.ensures.value ∙ numberAt-front c.read_up_to.new.space (search rules) ∙ ap (λ n. numberAt 4 (take n c.read_up_to.new.space) 0) (sym four) in
     let many = got.prefix_len.1 in
     statement-left _ _ _ _ _ _ _ (sym first.prefix_len.1 ∙ four) first.bytes got.bytes front
     (subst (λ n. n ≤ c.le32_at-len.result) many got.upper_bound)

@@ -3,8 +3,8 @@ use Rattle.std.specs.Io.KnownBytes.{Appends}
 use Rattle.std.proofs.KnownBytes.{Appends-nil, Appends-trans}
 use Rattle.recognisers.proofs.Unclosed.{truthful-none}
 use Rattle.tokenizer.proofs.LevelLaws.{level-fits, level-low-past, level-low-start}
-use Rattle.tokenizer.proofs.Steps.{step-moves, step_less, step-ends}
-use Rattle.listing.specs.Printed.{token_line}
+use Rattle.tokenizer.proofs.Steps.{step-moves, step-less, step-ends}
+use Rattle.listing.specs.Printed.{tokenLine}
 use Rattle.listing.proofs.Lines.{lines-start, lines-more, lines-end}
 use Rattle.listing.proofs.print_tokens.Goals as goal
 
@@ -16,7 +16,7 @@ level_past-level-requires g c =
     level-fits c.args.settings c.args.statement.now _ _ c.loop-token.invariant.0.walked _ _ _ c.next_step.ensures.value c.in-Token.is (search rules)
 
 pub loop-token-smaller : goal.loop-token-smaller
-loop-token-smaller g c = step_less c.args.settings c.args.statement.now _ _ _ _ c.next_step.ensures.value c.in-Token.is
+loop-token-smaller g c = step-less c.args.settings c.args.statement.now _ _ _ _ c.next_step.ensures.value c.in-Token.is
 
 pub loop-token-preserved : goal.loop-token-preserved
 loop-token-preserved g c =
@@ -27,7 +27,7 @@ loop-token-preserved g c =
         known = c.next_step.ensures.truthful;
         walked = level-low-past c.args.settings c.args.statement.now _ _ before.0.walked _ _ _ value c.in-Token.is _ c.level_past-level.ensures;
       },
-      before.1 ++ token_line c.loop-token.level c.in-Token.token,
+      before.1 ++ tokenLine c.loop-token.level c.in-Token.token,
       Appends-trans _ _ _ _ _ before.2 c.in_ok-print_token-in-Token.ensures,
       lines-more _ _ _ _ before.3 _ _ _ c.level_past-level.ensures moved.list,
     )
