@@ -15,7 +15,7 @@ use Rattle.calls.specs.Texts.{textAnswer, textAfter, callAnswer, callOutput}
 use Rattle.params.specs.declared.Found.{Found}
 use Rattle.params.specs.Get.{ownText}
 use Rattle.params.specs.Filled.{isPlaceholder, standsFor, indexAfter, partBytes, filledFrom, filled}
-use Rattle.params.specs.Answers.{checkedWith, foundFor, foundFirst, found_at, lookupFound, lookupBytes, lookupCounter, fillAnswer, fillOutput}
+use Rattle.params.specs.Answers.{checkedWith, foundFor, foundFirst, foundAt, lookupFound, lookupBytes, lookupCounter, fillAnswer, fillOutput}
 
 -- the bytes of so many lookups, from a place and a counter on, laid end to end
 unfoldable pub lookups : List ℕ → ℕ → ℕ → ℕ → List ℕ → ℕ → ℕ → ℕ → List ℕ
@@ -28,9 +28,9 @@ module _ (s : List ℕ) (dialect joins named : ℕ) (sheet : List ℕ) (settings
   -- a lookup is what stands for the token there
   there : (place counter : ℕ) (t : Token) (ts : List Token) → drop place (tokens settings s) ≡ t ∷ ts
       → lookupFound s dialect joins named sheet place counter ≡ foundFor s sheet counter t
-  unfolding lookupFound found_at foundFirst
+  unfolding lookupFound foundAt foundFirst
   there place counter t ts f =
-      (let z : lookupFound s dialect joins named sheet place counter ≡ found_at settings s sheet place counter = rw e in z)
+      (let z : lookupFound s dialect joins named sheet place counter ≡ foundAt settings s sheet place counter = rw e in z)
       ∙ ap (foundFirst s sheet counter) f
 
   behind : (place : ℕ) (t : Token) (ts : List Token) → drop place (tokens settings s) ≡ t ∷ ts → drop (suc place) (tokens settings s) ≡ ts

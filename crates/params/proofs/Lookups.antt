@@ -27,7 +27,7 @@ use Rattle.params.specs.Sheet.{isSheet}
 use Rattle.params.specs.Inner.Inside.{keyEnd, PartInside}
 use Rattle.params.specs.Inner.Carried.{paramsAt}
 use Rattle.params.specs.Filled.{standsFor, indexAfter, partBytes, partLength, partStart}
-use Rattle.params.specs.Answers.{checkedWith, nothingFound, foundFor, foundFirst, found_at, lookupFound, lookupPart, lookupCounter, lookupNumber, lookupDetail}
+use Rattle.params.specs.Answers.{checkedWith, nothingFound, foundFor, foundFirst, foundAt, lookupFound, lookupPart, lookupCounter, lookupNumber, lookupDetail}
 use Rattle.params.proofs.TokensInside.{step-inside, step-key, stands-inside}
 
 -- ---- one token
@@ -76,8 +76,8 @@ module _ (settings : Settings) (s : List ℕ) (place : ℕ) where
           go (suc k) d = let z : suc k - 1 ≡ k = omega arith in rw z
 
       module _ (sheet : List ℕ) (counter : ℕ) (z : ahead ≡ 0) (found : Found) (g : found ≡ foundFor s sheet counter t) where
-        pub find-found : found ≡ found_at settings s sheet place counter
-        unfolding found_at foundFirst
+        pub find-found : found ≡ foundAt settings s sheet place counter
+        unfolding foundAt foundFirst
         find-found = g ∙ sym (ap (foundFirst s sheet counter) (here ∙ ap (λ (k : ℕ). drop k (t ∷ left settings s c')) z))
 
         pub found-inside : isSheet sheet ≡ true → PartInside s sheet found.part
@@ -86,8 +86,8 @@ module _ (settings : Settings) (s : List ℕ) (place : ℕ) where
             rw p (stands-inside s sheet good t (step-inside settings s c t c' (sym e ∙ f)) counter)
 
     module _ (f : r ≡ S.Done) (sheet : List ℕ) (counter : ℕ) (found : Found) (g : found ≡ nothingFound counter) where
-      pub find-none : found ≡ found_at settings s sheet place counter
-      unfolding found_at foundFirst
+      pub find-none : found ≡ foundAt settings s sheet place counter
+      unfolding foundAt foundFirst
       find-none = g ∙ sym (ap (foundFirst s sheet counter) (at.rest ∙ ap (drop ahead) (step-ends settings s c (sym e ∙ f)) ∙ drop-nil ahead))
 
       pub none-inside : PartInside s sheet found.part
@@ -102,7 +102,7 @@ module _ (s : List ℕ) (dialect joins named : ℕ) (sheet : List ℕ) (r : Chec
     unfolding lookupNumber
     accepted-number = rw (← e, k)
 
-    module _ (place counter : ℕ) (found : Found) (f : found ≡ found_at settings s sheet place counter) where
+    module _ (place counter : ℕ) (found : Found) (f : found ≡ foundAt settings s sheet place counter) where
       found-is : found ≡ lookupFound s dialect joins named sheet place counter
       unfolding lookupFound
       found-is = f ∙ rw (← e, k)

@@ -50,13 +50,13 @@ foundFirst s sheet counter [] = nothingFound counter
 foundFirst s sheet counter (t ∷ ts) = foundFor s sheet counter t
 
 -- of the token at a place in the list
-unfoldable pub found_at : Settings → List ℕ → List ℕ → ℕ → ℕ → Found
-found_at settings s sheet place counter = foundFirst s sheet counter (drop place (tokens settings s))
+unfoldable pub foundAt : Settings → List ℕ → List ℕ → ℕ → ℕ → Found
+foundAt settings s sheet place counter = foundFirst s sheet counter (drop place (tokens settings s))
 
 -- the part handed back, of the statement or of the sheet, and the counter afterwards
 unfoldable pub lookupFound : List ℕ → ℕ → ℕ → ℕ → List ℕ → ℕ → ℕ → Found
 lookupFound s dialect joins named sheet place counter =
-    acceptedOr (λ settings. found_at settings s sheet place counter) (λ refusal. nothingFound counter) (checkedWith s dialect joins named sheet)
+    acceptedOr (λ settings. foundAt settings s sheet place counter) (λ refusal. nothingFound counter) (checkedWith s dialect joins named sheet)
 
 abbrev pub lookupPart : List ℕ → ℕ → ℕ → ℕ → List ℕ → ℕ → ℕ → Part
 lookupPart s dialect joins named sheet place counter = (lookupFound s dialect joins named sheet place counter).part

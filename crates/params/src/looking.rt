@@ -2,7 +2,7 @@
 ghost use Rattle.std.specs.Prelude.{◌≡◌, true, ◌≤◌, length};
 ghost use Rattle.params.specs.Sheet.{isSheet};
 ghost use Rattle.params.specs.Inner.Inside.{keyEnd, PartInside};
-ghost use Rattle.params.specs.Answers.{nothingFound, foundFor, found_at, lookupPart, lookupBytes, lookupStart, lookupCounter, lookupNumber, lookupDetail};
+ghost use Rattle.params.specs.Answers.{nothingFound, foundFor, foundAt, lookupPart, lookupBytes, lookupStart, lookupCounter, lookupNumber, lookupDetail};
 
 use crate::filling::check_with;
 use crate::getting::{params_past, stands_for};
@@ -40,7 +40,7 @@ fn found_for(statement: &[u8], sheet: &[u8], counter: u64, token: Token) -> Foun
 
 fn find(statement: &[u8], settings: Settings, sheet: &[u8], place: usize, counter: u64) -> Found
     requires { isSheet sheet.now ≡ true }
-    ensures value { result ≡ found_at settings statement.now sheet.now place counter }
+    ensures value { result ≡ foundAt settings statement.now sheet.now place counter }
     ensures part_inside { PartInside statement.now sheet.now result.part }
 {
     let mut ahead = place;
