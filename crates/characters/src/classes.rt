@@ -18,6 +18,7 @@ pub fn is_whitespace(c: u32) -> bool
 }
 
 // Latin, Greek and Cyrillic letters beyond ASCII, but for some: they need no table.
+#[inline(always)]
 fn is_western_letter(c: u32) -> bool
     ensures { result ≡ inRanges westernLetters c }
 {
@@ -27,6 +28,7 @@ fn is_western_letter(c: u32) -> bool
 }
 
 // Kana, Chinese and Korean ones.
+#[inline(always)]
 fn is_eastern_letter(c: u32) -> bool
     ensures { result ≡ inRanges easternLetters c }
 {
@@ -34,6 +36,7 @@ fn is_eastern_letter(c: u32) -> bool
         || (within(0x30A1, 0x30FA, c) || (within(0x4E00, 0xA48C, c) || within(0xAC00, 0xD7A3, c)))
 }
 
+#[inline(always)]
 pub fn is_alphabetic(c: u32) -> bool
     ensures { result ≡ isAlphabetic c }
 {
@@ -77,6 +80,7 @@ pub fn is_punctuation_connector(c: u32) -> bool
     connector::contains(c)
 }
 
+#[inline(always)]
 pub fn is_alphanumeric(c: u32) -> bool
     ensures { result ≡ isAlphanumeric c }
 {
@@ -84,6 +88,7 @@ pub fn is_alphanumeric(c: u32) -> bool
 }
 
 // The kinds of ASCII word characters come last.
+#[inline(always)]
 pub fn is_word_character(c: u32) -> bool
     ensures { result ≡ isWordCharacter c }
 {

@@ -9,6 +9,7 @@ use crate::classes::{is_placeholder_name_character, is_whitespace, is_word_chara
 use crate::decode::character_at;
 use crate::{Class, ascii};
 
+#[inline(always)]
 fn contains(class: Class, c: u32) -> bool
     ensures { result ≡ inClass class c }
 {
@@ -39,6 +40,7 @@ fn ascii_contains(class: Class, b: u8) -> bool
 }
 
 // How many bytes the character at i takes, 0 where it is not of the class.
+#[inline(always)]
 fn step(bytes: &[u8], i: usize, class: Class) -> usize
     requires { i < length bytes.now }
     ensures { result ≡ cond (inClass class (codePoint (drop i bytes.now))) (characterLength (drop i bytes.now)) 0 }

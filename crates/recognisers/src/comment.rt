@@ -78,6 +78,7 @@ fn block_comment(rest: &[u8], mark: &[u8]) -> Taken
 }
 
 // By the first byte of its mark.
+#[inline(always)]
 fn try_comment(rest: &[u8], hints: &[usize]) -> Recognised
     requires { Truthful hints.now rest.now }
     ensures { result ≡ getCommentToken rest.now }
@@ -91,6 +92,7 @@ fn try_comment(rest: &[u8], hints: &[usize]) -> Recognised
     token_of(TokenKind::BlockComment, block_comment(rest, b"/*"))
 }
 
+#[inline(always)]
 pub fn get_comment_token(rest: &[u8], hints: &[usize]) -> Recognised
     requires { Truthful hints.now rest.now }
     ensures { result ≡ getCommentToken rest.now }

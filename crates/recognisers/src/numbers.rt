@@ -141,6 +141,7 @@ fn negative_number(rest: &[u8], sign: &[u8]) -> Taken
     Taken::Fails
 }
 
+#[inline(always)]
 fn try_number(rest: &[u8]) -> Recognised
     ensures { result ≡ getNumberToken rest.now }
 {
@@ -150,6 +151,7 @@ fn try_number(rest: &[u8]) -> Recognised
     token_of(TokenKind::Number, unsigned_number(rest))
 }
 
+#[inline(always)]
 pub fn get_number_token(rest: &[u8]) -> Recognised
     ensures { result ≡ getNumberToken rest.now }
 {

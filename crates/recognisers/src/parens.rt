@@ -20,6 +20,7 @@ fn square(rest: &[u8], bracket: &[u8], dialect: Dialect) -> Taken
     }
 }
 
+#[inline(always)]
 fn try_open_paren(rest: &[u8], dialect: Dialect) -> Recognised
     ensures { result ≡ getOpenParenToken dialect rest.now }
 {
@@ -32,6 +33,7 @@ fn try_open_paren(rest: &[u8], dialect: Dialect) -> Recognised
     )
 }
 
+#[inline(always)]
 pub fn get_open_paren_token(rest: &[u8], dialect: Dialect) -> Recognised
     ensures { result ≡ getOpenParenToken dialect rest.now }
 {
@@ -62,6 +64,7 @@ fn end_case(rest: &[u8], end: &[u8], case: &[u8]) -> Taken
     Taken::Fails
 }
 
+#[inline(always)]
 fn try_close_paren(rest: &[u8], dialect: Dialect) -> Recognised
     ensures { result ≡ getCloseParenToken dialect rest.now }
 {
@@ -72,6 +75,7 @@ fn try_close_paren(rest: &[u8], dialect: Dialect) -> Recognised
     token_of(TokenKind::CloseParen, first_of(exactly(rest, b")"), words))
 }
 
+#[inline(always)]
 pub fn get_close_paren_token(rest: &[u8], dialect: Dialect) -> Recognised
     ensures { result ≡ getCloseParenToken dialect rest.now }
 {

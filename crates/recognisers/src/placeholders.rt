@@ -73,6 +73,7 @@ fn indexed_taken(rest: &[u8]) -> Taken
     first_of(marked_digits(rest, b"?$"), exactly(rest, b"?"))
 }
 
+#[inline(always)]
 pub fn get_indexed_placeholder_token(rest: &[u8]) -> Recognised
     ensures { result ≡ getIndexedPlaceholderToken rest.now }
 {
@@ -119,6 +120,7 @@ fn ident_taken(rest: &[u8]) -> Taken
     marked_name(rest, b"@:$")
 }
 
+#[inline(always)]
 pub fn get_ident_named_placeholder_token(rest: &[u8]) -> Recognised
     ensures { result ≡ getIdentNamedPlaceholderToken rest.now }
 {
@@ -182,6 +184,7 @@ fn braced_taken(rest: &[u8], hints: &[usize]) -> Taken
     braced_after(rest, b"{", hints)
 }
 
+#[inline(always)]
 pub fn get_braced_named_placeholder_token(rest: &[u8], hints: &[usize]) -> Recognised
     requires { Truthful hints.now rest.now }
     ensures { result ≡ getBracedNamedPlaceholderToken rest.now }
@@ -254,6 +257,7 @@ fn string_named_taken(rest: &[u8], dialect: Dialect, hints: &[usize]) -> Taken
     marked_string(rest, b"@:", dialect, hints)
 }
 
+#[inline(always)]
 pub fn get_string_named_placeholder_token(
     rest: &[u8],
     dialect: Dialect,
@@ -303,6 +307,7 @@ fn name_or_string(rest: &[u8], dialect: Dialect, hints: &[usize]) -> Recognised
 }
 
 // Each alternative is tried only where those before it recognise nothing: `$1$1..` would be one long name.
+#[inline(always)]
 fn without_braces(rest: &[u8], named: bool, dialect: Dialect, hints: &[usize]) -> Recognised
     requires truthful { Truthful hints.now rest.now }
     requires rest_value { startsWith (byte "{") rest.now ≡ false }
@@ -314,6 +319,7 @@ fn without_braces(rest: &[u8], named: bool, dialect: Dialect, hints: &[usize]) -
     }
 }
 
+#[inline(always)]
 fn try_placeholder(rest: &[u8], named: bool, dialect: Dialect, hints: &[usize]) -> Recognised
     requires { Truthful hints.now rest.now }
     ensures { result ≡ getPlaceholderToken named dialect rest.now }
@@ -324,6 +330,7 @@ fn try_placeholder(rest: &[u8], named: bool, dialect: Dialect, hints: &[usize]) 
     without_braces(rest, named, dialect, hints)
 }
 
+#[inline(always)]
 pub fn get_placeholder_token(
     rest: &[u8],
     named: bool,

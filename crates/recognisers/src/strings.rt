@@ -143,6 +143,7 @@ fn string_taken(rest: &[u8], dialect: Dialect, hints: &[usize]) -> Taken
     Taken::Fails
 }
 
+#[inline(always)]
 fn try_string(rest: &[u8], dialect: Dialect, hints: &[usize]) -> Recognised
     requires { Truthful hints.now rest.now }
     ensures { result ≡ getStringToken dialect rest.now }
@@ -162,6 +163,7 @@ fn try_string(rest: &[u8], dialect: Dialect, hints: &[usize]) -> Recognised
     }
 }
 
+#[inline(always)]
 pub fn get_string_token(rest: &[u8], dialect: Dialect, hints: &[usize]) -> Recognised
     requires { Truthful hints.now rest.now }
     ensures { result ≡ getStringToken dialect rest.now }

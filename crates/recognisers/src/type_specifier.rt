@@ -19,6 +19,7 @@ fn type_specifier(rest: &[u8]) -> Recognised
 }
 
 // The token before allows one, or there is none.
+#[inline(always)]
 fn try_type_specifier(rest: &[u8], allowed: bool) -> Recognised
     ensures { result ≡ getTypeSpecifierToken allowed rest.now }
 {
@@ -28,6 +29,7 @@ fn try_type_specifier(rest: &[u8], allowed: bool) -> Recognised
     Recognised::Nothing
 }
 
+#[inline(always)]
 pub fn get_type_specifier_token(rest: &[u8], allowed: bool) -> Recognised
     ensures { result ≡ getTypeSpecifierToken allowed rest.now }
 {

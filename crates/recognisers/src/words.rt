@@ -11,6 +11,7 @@ use crate::scan::{at_least, is_among, stands_at, starts_among, token_of};
 use crate::{Recognised, TokenKind};
 use characters::Class;
 
+#[inline(always)]
 fn try_whitespace(rest: &[u8]) -> Recognised
     ensures { result ≡ getWhitespaceToken rest.now }
 {
@@ -21,6 +22,7 @@ fn try_whitespace(rest: &[u8]) -> Recognised
 }
 
 // No other byte begins whitespace; C0, E0 and F0 begin none in a well-formed text.
+#[inline(always)]
 pub fn get_whitespace_token(rest: &[u8]) -> Recognised
     ensures { result ≡ getWhitespaceToken rest.now }
 {
@@ -58,6 +60,7 @@ fn at_most_five(n: usize) -> usize
 }
 
 // Five bytes are enough to look at.
+#[inline(always)]
 fn few_operators(rest: &[u8]) -> usize
     ensures { result ≡ min (count isOperator rest.now) 5 }
 {
@@ -65,6 +68,7 @@ fn few_operators(rest: &[u8]) -> usize
     count_operators(&rest[..n])
 }
 
+#[inline(always)]
 pub fn get_operator_token(rest: &[u8]) -> Recognised
     ensures { result ≡ getOperatorToken rest.now }
 {
@@ -72,6 +76,7 @@ pub fn get_operator_token(rest: &[u8]) -> Recognised
 }
 
 // The end of a word that begins with so many ASCII word characters.
+#[inline(always)]
 fn word_end(rest: &[u8], word: usize) -> usize
     requires { word ≡ wordLength rest.now }
     ensures { result ≡ run isWordCharacter 0 rest.now }
@@ -86,6 +91,7 @@ fn word_end(rest: &[u8], word: usize) -> usize
 }
 
 // `word` is what `word_length` tells of the rest.
+#[inline(always)]
 pub fn get_word_token(rest: &[u8], word: usize) -> Recognised
     requires { word ≡ wordLength rest.now }
     ensures { result ≡ getWordToken rest.now }
@@ -100,6 +106,7 @@ fn is_line_break(rest: &[u8]) -> bool
 }
 
 // One character, but no CR or LF.
+#[inline(always)]
 pub fn get_any_other_char(rest: &[u8]) -> Recognised
     ensures { result ≡ getAnyOtherChar rest.now }
 {

@@ -157,6 +157,7 @@ fn starts_with_letter(rest: &[u8]) -> bool
 }
 
 // A letter or `$`.
+#[inline(always)]
 fn may_be_reserved(rest: &[u8]) -> bool
     ensures { result ≡ mayBeReserved rest.now }
 {
@@ -173,6 +174,7 @@ fn is_lone_dollar(rest: &[u8]) -> bool
     false
 }
 
+#[inline(always)]
 fn reserved_token(rest: &[u8], word: usize, after_between: bool, last: TopLevel) -> Recognised
     requires { word ≡ wordLength rest.now }
     ensures { result ≡ tokenFor after_between last rest.now (findEntry entries rest.now) }
@@ -189,6 +191,7 @@ fn reserved_token(rest: &[u8], word: usize, after_between: bool, last: TopLevel)
 }
 
 // `word` is what `word_length` tells of the rest.
+#[inline(always)]
 pub fn get_reserved_word_token(
     rest: &[u8],
     word: usize,

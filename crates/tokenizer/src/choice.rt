@@ -1,4 +1,5 @@
-// `get_next_token`: one ordered choice, each function the rest of it from one recogniser on.
+// `get_next_token`: one ordered choice, each function the rest of it from one recogniser on. With the step and the recognisers it is
+// compiled into each loop over tokens, since an answer that is handed back through memory is waited for.
 ghost use Rattle.std.specs.Prelude.{◌≡◌};
 ghost use Rattle.recognisers.specs.Inner.Known.{Truthful};
 ghost use Rattle.recognisers.specs.Inner.WordLength.{wordLength};
@@ -13,6 +14,7 @@ use recognisers::{
 };
 use reserved::get_reserved_word_token;
 
+#[inline(always)]
 fn from_word(rest: &[u8], word: usize) -> Recognised
     requires { word ≡ wordLength rest.now }
     ensures { result ≡ fromWord rest.now }
@@ -23,6 +25,7 @@ fn from_word(rest: &[u8], word: usize) -> Recognised
     }
 }
 
+#[inline(always)]
 fn from_placeholder(rest: &[u8], word: usize, settings: Settings, hints: &[usize]) -> Recognised
     requires word_value { word ≡ wordLength rest.now }
     requires truthful { Truthful hints.now rest.now }
@@ -35,6 +38,7 @@ fn from_placeholder(rest: &[u8], word: usize, settings: Settings, hints: &[usize
     }
 }
 
+#[inline(always)]
 fn from_operator(rest: &[u8], word: usize, settings: Settings, hints: &[usize]) -> Recognised
     requires word_value { word ≡ wordLength rest.now }
     requires truthful { Truthful hints.now rest.now }
@@ -46,6 +50,7 @@ fn from_operator(rest: &[u8], word: usize, settings: Settings, hints: &[usize]) 
     }
 }
 
+#[inline(always)]
 fn from_reserved(rest: &[u8], settings: Settings, memory: Memory, hints: &[usize]) -> Recognised
     requires { Truthful hints.now rest.now }
     ensures { result ≡ fromReserved settings memory rest.now }
@@ -58,6 +63,7 @@ fn from_reserved(rest: &[u8], settings: Settings, memory: Memory, hints: &[usize
     }
 }
 
+#[inline(always)]
 fn from_number(rest: &[u8], settings: Settings, memory: Memory, hints: &[usize]) -> Recognised
     requires { Truthful hints.now rest.now }
     ensures { result ≡ fromNumber settings memory rest.now }
@@ -68,6 +74,7 @@ fn from_number(rest: &[u8], settings: Settings, memory: Memory, hints: &[usize])
     }
 }
 
+#[inline(always)]
 fn from_close_paren(rest: &[u8], settings: Settings, memory: Memory, hints: &[usize]) -> Recognised
     requires { Truthful hints.now rest.now }
     ensures { result ≡ fromCloseParen settings memory rest.now }
@@ -79,6 +86,7 @@ fn from_close_paren(rest: &[u8], settings: Settings, memory: Memory, hints: &[us
     }
 }
 
+#[inline(always)]
 fn from_open_paren(rest: &[u8], settings: Settings, memory: Memory, hints: &[usize]) -> Recognised
     requires { Truthful hints.now rest.now }
     ensures { result ≡ fromOpenParen settings memory rest.now }
@@ -90,6 +98,7 @@ fn from_open_paren(rest: &[u8], settings: Settings, memory: Memory, hints: &[usi
     }
 }
 
+#[inline(always)]
 fn from_string(rest: &[u8], settings: Settings, memory: Memory, hints: &[usize]) -> Recognised
     requires { Truthful hints.now rest.now }
     ensures { result ≡ fromString settings memory rest.now }
@@ -101,6 +110,7 @@ fn from_string(rest: &[u8], settings: Settings, memory: Memory, hints: &[usize])
     }
 }
 
+#[inline(always)]
 fn from_type_specifier(
     rest: &[u8],
     settings: Settings,
@@ -116,6 +126,7 @@ fn from_type_specifier(
     }
 }
 
+#[inline(always)]
 fn get_next_token(rest: &[u8], settings: Settings, memory: Memory, hints: &[usize]) -> Recognised
     requires { Truthful hints.now rest.now }
     ensures { result ≡ getNextToken settings memory rest.now }
@@ -127,6 +138,7 @@ fn get_next_token(rest: &[u8], settings: Settings, memory: Memory, hints: &[usiz
 }
 
 // Whitespace is taken first.
+#[inline(always)]
 pub fn next_piece(rest: &[u8], settings: Settings, memory: Memory, hints: &[usize]) -> Recognised
     requires { Truthful hints.now rest.now }
     ensures { result ≡ nextPiece settings memory rest.now }

@@ -6,6 +6,7 @@ use crate::Memory;
 use recognisers::{TokenKind, is_exactly, is_kind};
 use reserved::TopLevel;
 
+#[inline(always)]
 fn takes_type_specifier(kind: TokenKind) -> bool
     ensures { result ≡ takesTypeSpecifier kind }
 {
@@ -48,6 +49,7 @@ fn top_level_of(alias: &[u8]) -> TopLevel
     TopLevel::Other
 }
 
+#[inline(always)]
 fn after_between(before: bool, kind: TokenKind, value: &[u8]) -> bool
     ensures { result ≡ afterBetween before kind value.now }
 {
@@ -57,6 +59,7 @@ fn after_between(before: bool, kind: TokenKind, value: &[u8]) -> bool
     before
 }
 
+#[inline(always)]
 fn last_top_level(before: TopLevel, kind: TokenKind, value: &[u8], alias: usize) -> TopLevel
     requires { alias ≤ length value.now }
     ensures { result ≡ lastTopLevel before kind value.now alias }
@@ -67,6 +70,7 @@ fn last_top_level(before: TopLevel, kind: TokenKind, value: &[u8], alias: usize)
     before
 }
 
+#[inline(always)]
 fn remember_token(memory: Memory, kind: TokenKind, value: &[u8], alias: usize) -> Memory
     requires { alias ≤ length value.now }
     ensures { result ≡ remember memory kind value.now alias }
@@ -85,6 +89,7 @@ fn remember_token(memory: Memory, kind: TokenKind, value: &[u8], alias: usize) -
 }
 
 // Whitespace is passed over.
+#[inline(always)]
 pub fn remember_piece(memory: Memory, kind: TokenKind, value: &[u8], alias: usize) -> Memory
     requires { alias ≤ length value.now }
     ensures { result ≡ remembered memory kind value.now alias }

@@ -28,6 +28,7 @@ pub fn at_start() -> Cursor
 }
 
 // A Join is given out as top level or as a newline word.
+#[inline(always)]
 fn given_out(joins: bool, kind: TokenKind) -> TokenKind
     ensures { result ≡ givenOut joins kind }
 {
@@ -41,6 +42,7 @@ fn given_out(joins: bool, kind: TokenKind) -> TokenKind
 }
 
 // A key's places, counted from the statement's start.
+#[inline(always)]
 fn place_key(at: usize, key: Key) -> Key
     requires { at + keyStart key < 2 ^ 64 }
     ensures { result ≡ placed at key }
@@ -61,6 +63,7 @@ fn place_key(at: usize, key: Key) -> Key
 }
 
 // An opener that opens nothing is an Operator.
+#[inline(always)]
 fn learn(statement: &[u8], at: usize, kind: TokenKind, dialect: Dialect, hints: &mut [usize])
     requires at_in_bounds { at < length statement.now }
     requires truthful { Truthful hints.old statement.now }
@@ -72,6 +75,7 @@ fn learn(statement: &[u8], at: usize, kind: TokenKind, dialect: Dialect, hints: 
 }
 
 // What is known of the statement's end goes along, and grows where an opener opened nothing.
+#[inline(always)]
 pub fn next_step(statement: &[u8], settings: Settings, cursor: Cursor, hints: &mut [usize]) -> Step
     requires { Truthful hints.old statement.now }
     ensures value { result ≡ stepAt settings statement.now cursor }
