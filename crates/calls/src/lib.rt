@@ -31,6 +31,7 @@ pub enum Refusal {
     TableFull(u64),
     Sheet,
     OutputFull(u64),
+    PartsFull(u64),
 }
 
 // A statement under settings, accepted or refused.

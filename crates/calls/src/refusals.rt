@@ -14,6 +14,7 @@ pub fn refusal_number(refusal: Refusal) -> u64
         Refusal::TableFull(_) => 4,
         Refusal::Sheet => 5,
         Refusal::OutputFull(_) => 6,
+        Refusal::PartsFull(_) => 7,
     }
 }
 
@@ -27,5 +28,6 @@ pub fn refusal_detail(refusal: Refusal) -> u64
         Refusal::TableFull(n) => n,
         Refusal::Sheet => 0,
         Refusal::OutputFull(n) => n,
+        Refusal::PartsFull(n) => n,
     }
 }

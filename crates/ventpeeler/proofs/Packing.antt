@@ -6,7 +6,7 @@ use native.Mathlib.Omega.{arith}
 use mathlib.Core.Path.{◌≡◌, sym, ap, ◌∙◌}
 use mathlib.Core.List.{List}
 use Rattle.calls.specs.declared.Refusal.{Refusal}
-use Rattle.calls.specs.declared.Refusal.TheVariants.{Overlong, NotUtf8, Setting, TableFull, Sheet, OutputFull}
+use Rattle.calls.specs.declared.Refusal.TheVariants.{Overlong, NotUtf8, Setting, TableFull, Sheet, OutputFull, PartsFull}
 use Rattle.calls.specs.declared.TextAnswer.{TextAnswer}
 use Rattle.calls.specs.declared.TextAnswer.TheVariants as Text
 use Rattle.calls.specs.Checks.{longest}
@@ -36,6 +36,7 @@ refusal-small Setting = omega arith
 refusal-small (TableFull n) = omega arith
 refusal-small Sheet = omega arith
 refusal-small (OutputFull n) = omega arith
+refusal-small (PartsFull n) = omega arith
 
 text-small : (answer : TextAnswer) → textNumber answer < 256
 text-small (Text.Written n) = omega arith

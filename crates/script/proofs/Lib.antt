@@ -1,0 +1,1 @@
+-- Laws that the proofs cite, and theorems on the definitions.

@@ -1,0 +1,2 @@
+-- For the contracts of inner functions alone: no promise of the crate names any of it.
+pub mod Ended

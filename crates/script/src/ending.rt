@@ -1,0 +1,53 @@
+// Where parts end, told token by token.
+ghost use Rattle.std.specs.Prelude.{◌≡◌, ◌+◌, ◌≤◌, length};
+ghost use Rattle.script.specs.Cuts.{isCut};
+ghost use Rattle.script.specs.Inner.Ended.{endsPart, endedCount, startPast};
+
+use recognisers::{TokenKind, is_kind};
+use tokenizer::Token;
+
+fn is_cut(script: &[u8], token: Token) -> bool
+    requires { token.start + token.len ≤ length script.now }
+    ensures { result ≡ isCut script.now token }
+{
+    if token.len != 1 {
+        return false;
+    }
+    if script[token.start] != b';' {
+        return false;
+    }
+    let kind = token.kind;
+    is_kind(kind, TokenKind::Operator)
+}
+
+// The last token ends a part too: what is left behind the last `;`.
+pub fn ends_part(script: &[u8], token: Token) -> bool
+    requires { token.start + token.len ≤ length script.now }
+    ensures { result ≡ endsPart script.now token }
+{
+    if is_cut(script, token) {
+        return true;
+    }
+    token.start + token.len == script.len()
+}
+
+pub fn ended_count(script: &[u8], token: Token) -> usize
+    requires { token.start + token.len ≤ length script.now }
+    ensures { result ≡ endedCount script.now token }
+{
+    if ends_part(script, token) {
+        return 1;
+    }
+    0
+}
+
+// Where the part starts that the next token belongs to.
+pub fn start_past(script: &[u8], from: usize, token: Token) -> usize
+    requires { token.start + token.len ≤ length script.now }
+    ensures { result ≡ startPast script.now from token }
+{
+    if ends_part(script, token) {
+        return token.start + token.len;
+    }
+    from
+}

@@ -1,0 +1,67 @@
+// The parts of a whole script: how many there are, and their places.
+ghost use Rattle.std.specs.Prelude.{◌≡◌, ◌≤◌, length};
+ghost use Rattle.calls.specs.Texts.{writtenOver};
+ghost use Rattle.script.specs.Settings.{cutterSettings};
+ghost use Rattle.script.specs.Parts.{parts};
+ghost use Rattle.script.specs.Places.{placesOf};
+
+use crate::ending::{ended_count, start_past};
+use crate::places::{PLACE_BYTES, put_ended};
+use calls::Settings;
+use recognisers::{Dialect, no_hints};
+use tokenizer::{Step, at_start, next_step};
+
+pub fn cutter_settings() -> Settings
+    ensures { result ≡ cutterSettings }
+{
+    Settings {
+        dialect: Dialect::Generic,
+        joins: false,
+        named: false,
+    }
+}
+
+pub fn count_parts(script: &[u8]) -> usize
+    ensures { result ≡ length (parts script.now) }
+{
+    let settings = cutter_settings();
+    let mut count = 0;
+    let mut hints = no_hints();
+    let mut cursor = at_start();
+    loop {
+        match next_step(script, settings, cursor, &mut hints) {
+            Step::Token(token, next) => {
+                count += ended_count(script, token);
+                cursor = next;
+            }
+            Step::Done => {
+                return count;
+            }
+        }
+    }
+}
+
+// How many places were written.
+pub fn write_parts(script: &[u8], places: &mut [u8]) -> usize
+    requires { length (placesOf (parts script.now)) ≤ length places.old }
+    ensures value { result ≡ length (parts script.now) }
+    ensures places_after { places.new ≡ writtenOver (placesOf (parts script.now)) places.old }
+{
+    let settings = cutter_settings();
+    let mut at = 0;
+    let mut from = 0;
+    let mut hints = no_hints();
+    let mut cursor = at_start();
+    loop {
+        match next_step(script, settings, cursor, &mut hints) {
+            Step::Token(token, next) => {
+                at = put_ended(script, from, token, places, at);
+                from = start_past(script, from, token);
+                cursor = next;
+            }
+            Step::Done => {
+                return at / PLACE_BYTES;
+            }
+        }
+    }
+}
