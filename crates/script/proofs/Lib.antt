@@ -1,1 +1,5 @@
 -- Laws that the proofs cite, and theorems on the definitions.
+pub mod CutTokens
+pub mod Tiles
+pub mod PartWalk
+pub mod CutAnswers
