@@ -88,9 +88,9 @@ module _ (s : List ℕ) where
   abbrev pub endingWalk : Walk (Unit {0}) Token
   endingWalk = record { adds = λ x t. endingAt t; past = λ x t. x; text = λ x ts. endings ts; none = λ x. none-ending; more = λ x t ts. more-ending t ts }
 
-  pub one-counted : (t : Token) → endedCount s t ≡ length (endingAt t)
+  pub one-counted : (t : Token) (k : ℕ) → k ≡ endedCount s t → k ≡ length (endingAt t)
   unfolding endedCount
-  one-counted t = go (endsPart s t)
+  one-counted t k e = e ∙ go (endsPart s t)
     where
       go : (b : Bool) → cond b 1 0 ≡ length (cond b (t ∷ []) [])
       go true = refl
