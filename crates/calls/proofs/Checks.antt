@@ -2,22 +2,23 @@
 -- Assumes nothing.
 use Prim.Native.Nat.{ℕ, ◌≤◌, ◌<◌}
 use native.Mathlib.Omega.{arith}
-use mathlib.Core.Path.{◌≡◌, refl, sym, ◌∙◌}
-use mathlib.Core.Bool.{Bool, true, false}
+use mathlib.Core.Path.{◌≡◌, refl, ◌∙◌}
+use mathlib.Core.Bool.{Bool, true, false, cond}
 use mathlib.Core.List.{List}
 use borrow.Author.Tests.{lt-ltb, le-ltb, ltb-false}
 use lib.Dec.{ltb}
 use lib.ListN.{length}
 use Rattle.characters.specs.declared.IllFormed.{IllFormed}
 use Rattle.characters.specs.declared.IllFormed.TheVariants.{At, Nowhere}
-use Rattle.characters.specs.Utf8.{firstIllFormed}
+use Rattle.characters.specs.Utf8.{firstIllFormed, wellFormed}
+use Rattle.characters.proofs.WellFormedSteps.{ill-formed-nowhere}
 use Rattle.calls.specs.declared.Checked.{Checked}
 use Rattle.calls.specs.declared.Checked.TheVariants.{Accepted, Refused}
 use Rattle.calls.specs.declared.Refusal.{Refusal}
 use Rattle.calls.specs.declared.Refusal.TheVariants.{Overlong, NotUtf8, Setting}
 use Rattle.calls.specs.declared.Settings.{Settings}
 use Rattle.calls.specs.Settings.{isSetting, settingsOf}
-use Rattle.calls.specs.Checks.{longest, checkedText, checked}
+use Rattle.calls.specs.Checks.{longest, whenUtf8, checkedText, checked}
 
 -- ---- each answer
 
@@ -44,23 +45,33 @@ module _ (dialect joins named : ℕ) (s : List ℕ) (t : Bool) (e : t ≡ isSett
   unfolding checked
   setting-accepted settings r f g k = k ∙ rw (← e, f, g)
 
--- ---- what is accepted is short
+-- ---- what acceptance says
 
 pub refused-accepted : (refusal : Refusal) (settings : Settings) → Refused refusal ≡ Accepted settings → ⊥
 refused-accepted refusal settings e = let z : ◌≡◌ {A = ℕ} 0 1 = cc in let w : ⊥ = omega arith in w
 
-text-short : (settings given : Settings) (s : List ℕ) → checkedText given s ≡ Accepted settings → length s ≤ longest
-unfolding checkedText
-text-short settings given s e = go (ltb longest (length s)) refl
-  where
-    go : (b : Bool) → ltb longest (length s) ≡ b → length s ≤ longest
-    go true f = absurd (refused-accepted (Overlong (length s)) settings (sym (rw f) ∙ e))
-    go false f = ltb-false longest (length s) f
+module _ (dialect joins named : ℕ) (settings : Settings) where
+  pub record Accepts (s : List ℕ) : Type 0 where
+    pub setting : isSetting dialect joins named ≡ true
+    pub is : settingsOf dialect joins named ≡ settings
+    pub short : length s ≤ longest
+    pub utf8 : wellFormed s ≡ true
+
+  pub accepts : (s : List ℕ) → checked dialect joins named s ≡ Accepted settings → Accepts s
+  unfolding checked checkedText
+  accepts s e = go (isSetting dialect joins named) (ltb longest (length s)) (firstIllFormed s) refl refl refl e
+    where
+      go : (t u : Bool) (i : IllFormed) → isSetting dialect joins named ≡ t → ltb longest (length s) ≡ u → firstIllFormed s ≡ i
+          → cond t (cond u (Refused (Overlong (length s))) (whenUtf8 (settingsOf dialect joins named) i)) (Refused Setting) ≡ Accepted settings → Accepts s
+      go true true i f g h e = absurd (refused-accepted (Overlong (length s)) settings e)
+      go true false (At k) f g h e = absurd (refused-accepted (NotUtf8 k) settings e)
+      go true false Nowhere f g h e =
+          record { setting = f; is = (let k : settingsOf dialect joins named ≡ settings = cc in k); short = ltb-false longest (length s) g; utf8 = (ill-formed-nowhere s).0 h }
+      go false u i f g h e = absurd (refused-accepted Setting settings e)
+
+  pub accepted : (s : List ℕ) → Accepts s → checked dialect joins named s ≡ Accepted settings
+  unfolding checked checkedText
+  accepted s a = rw (a.setting, a.is, le-ltb longest (length s) a.short, (ill-formed-nowhere s).1 a.utf8)
 
 pub accepted-short : (dialect joins named : ℕ) (s : List ℕ) (settings : Settings) → checked dialect joins named s ≡ Accepted settings → length s ≤ longest
-unfolding checked
-accepted-short dialect joins named s settings e = go (isSetting dialect joins named) refl
-  where
-    go : (b : Bool) → isSetting dialect joins named ≡ b → length s ≤ longest
-    go true f = text-short settings (settingsOf dialect joins named) s (sym (rw f) ∙ e)
-    go false f = absurd (refused-accepted Setting settings (sym (rw f) ∙ e))
+accepted-short dialect joins named s settings e = (accepts dialect joins named settings s e).short

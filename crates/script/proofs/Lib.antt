@@ -3,3 +3,7 @@ pub mod CutTokens
 pub mod Tiles
 pub mod PartWalk
 pub mod CutAnswers
+pub mod PartsEndToEnd
+pub mod PartEnds
+pub mod PartsAccepted
+pub mod ReadAlone

@@ -1,5 +1,5 @@
 -- The parts of a script.
-use Rattle.std.specs.Prelude.{ℕ, ◌+◌, ◌-◌, cond, List, [], ◌∷◌, ltb, length, take, drop}
+use Rattle.std.specs.Prelude.{ℕ, ◌+◌, ◌-◌, cond, List, [], ◌∷◌, ◌++◌, ltb, length, take, drop}
 use Rattle.tokenizer.specs.declared.Token.{Token}
 use Rattle.tokenizer.specs.Tokens.{tokens}
 use Rattle.script.specs.Settings.{cutterSettings}
@@ -25,3 +25,8 @@ partsFrom s from (t ∷ ts) =
 
 unfoldable pub parts : List ℕ → List Part
 parts s = partsFrom s 0 (tokens cutterSettings s)
+
+-- the parts laid end to end
+unfoldable pub laid : List ℕ → List Part → List ℕ
+laid s [] = []
+laid s (p ∷ ps) = partText s p ++ laid s ps

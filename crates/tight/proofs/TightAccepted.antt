@@ -8,25 +8,18 @@ use mathlib.Core.List.{List, [], ◌∷◌}
 use mathlib.Core.Bool.{Bool, true, false, cond}
 use lib.ListN.{length, take, drop, take-append-drop}
 use lib.Seq.{drop-drop}
-use lib.Dec.{ltb}
-use borrow.Author.Tests.{le-ltb, ltb-false}
-use Rattle.characters.specs.declared.IllFormed.{IllFormed}
-use Rattle.characters.specs.declared.IllFormed.TheVariants.{At, Nowhere}
 use Rattle.characters.specs.Classes.{isWhitespace}
 use Rattle.characters.specs.Runs.{run}
-use Rattle.characters.specs.Utf8.{firstIllFormed, wellFormed}
-use Rattle.characters.proofs.WellFormedSteps.{ill-formed-nowhere}
+use Rattle.characters.specs.Utf8.{wellFormed}
 use Rattle.characters.proofs.WellFormedCuts.{end-formed, run-cut}
 use Rattle.recognisers.specs.declared.Recognised.TheVariants as R
 use Rattle.recognisers.specs.declared.TokenKind.{TokenKind}
 use Rattle.recognisers.proofs.PieceBoundaries.{Bounded}
-use Rattle.calls.specs.declared.Checked.TheVariants.{Accepted, Refused}
+use Rattle.calls.specs.declared.Checked.TheVariants.{Accepted}
 use Rattle.tokenizer.specs.declared.Memory.{Memory}
-use Rattle.calls.specs.declared.Refusal.{Refusal}
-use Rattle.calls.specs.declared.Refusal.TheVariants as A
 use Rattle.calls.specs.declared.Settings.{Settings}
-use Rattle.calls.specs.Settings.{isSetting, settingsOf}
-use Rattle.calls.specs.Checks.{longest, whenUtf8, checkedText, checked}
+use Rattle.calls.specs.Checks.{checked}
+use Rattle.calls.proofs.Checks.{accepts, accepted}
 use Rattle.tokenizer.specs.Memory.{start}
 use Rattle.tokenizer.specs.Tokens.{givenOut}
 use Rattle.tokenizer.proofs.TokenBoundaries.{piece-bounded}
@@ -83,35 +76,11 @@ module _ (settings : Settings) where
   tight-formed s w =
       rw (tight-is settings s, reading-is settings s, items-gap settings start s) (formed (afterGap s) start (gap-of s).ended (run-cut isWhitespace 0 s w))
 
--- ---- what acceptance says
+-- ---- it is accepted
 
 module _ (dialect joins named : ℕ) (settings : Settings) where
-  record Accepts (s : List ℕ) : Type 0 where
-    setting : isSetting dialect joins named ≡ true
-    is : settingsOf dialect joins named ≡ settings
-    short : length s ≤ longest
-    utf8 : wellFormed s ≡ true
-
-  refused≢accepted : {P : Type 0} {a : Refusal} → Refused a ≡ Accepted settings → P
-  refused≢accepted e = absurd (let z : ◌≡◌ {A = ℕ} 0 1 = cc in let y : ⊥ = omega arith in y)
-
-  accepts : (s : List ℕ) → checked dialect joins named s ≡ Accepted settings → Accepts s
-  unfolding checked checkedText
-  accepts s e = go (isSetting dialect joins named) (ltb longest (length s)) (firstIllFormed s) refl refl refl e
-    where
-      go : (t u : Bool) (i : IllFormed) → isSetting dialect joins named ≡ t → ltb longest (length s) ≡ u → firstIllFormed s ≡ i
-          → cond t (cond u (Refused (A.Overlong (length s))) (whenUtf8 (settingsOf dialect joins named) i)) (Refused A.Setting) ≡ Accepted settings → Accepts s
-      go true true i f g h e = refused≢accepted e
-      go true false (At k) f g h e = refused≢accepted e
-      go true false Nowhere f g h e =
-          record { setting = f; is = (let k : settingsOf dialect joins named ≡ settings = cc in k); short = ltb-false longest (length s) g; utf8 = (ill-formed-nowhere s).0 h }
-      go false u i f g h e = refused≢accepted e
-
-  accepted : (t : List ℕ) → isSetting dialect joins named ≡ true → settingsOf dialect joins named ≡ settings → length t ≤ longest → wellFormed t ≡ true → checked dialect joins named t ≡ Accepted settings
-  unfolding checked checkedText
-  accepted t a b l w = rw (a, b, le-ltb longest (length t) l, (ill-formed-nowhere t).1 w)
-
   pub tight-accepted : (s : List ℕ) → checked dialect joins named s ≡ Accepted settings → checked dialect joins named (tight settings s) ≡ Accepted settings
   tight-accepted s e =
-      let a = accepts s e in
-      accepted (tight settings s) a.setting a.is (le_trans (tight-short settings s) a.short) (tight-formed settings s a.utf8)
+      let a = accepts dialect joins named settings s e in
+      accepted dialect joins named settings (tight settings s)
+      (record { setting = a.setting; is = a.is; short = le_trans (tight-short settings s) a.short; utf8 = tight-formed settings s a.utf8 })
