@@ -68,7 +68,7 @@ module _ (s : List ℕ) where
   unfolding parts
   parts-are settings e = rw e (parts-ended (tokens cutterSettings s) (tiled cutterSettings s))
 
--- ---- counted
+  -- ---- counted
 
   abbrev pub endingAt : Token → List Token
   endingAt t = cond (endsPart s t) (t ∷ []) []

@@ -59,7 +59,7 @@ module _ (s : List ℕ) where
   part-formed : (p : Part) → Whole p → wellFormed (partText s p) ≡ true
   part-formed p h =
       let joined : partText s p ++ drop (p.start + p.len) s ≡ drop p.start s =
-        ap (λ (l : List ℕ). partText s p ++ l) (sym (drop-drop p.len p.start s)) ∙ take-append-drop p.len (drop p.start s)
+      ap (λ (l : List ℕ). partText s p ++ l) (sym (drop-drop p.len p.start s)) ∙ take-append-drop p.len (drop p.start s)
       in
       let k : wellFormed (partText s p ++ []) ≡ true = replaced (partText s p) (drop (p.start + p.len) s) [] (rw joined h.0) h.1 end-formed in
       rw append-nil at k

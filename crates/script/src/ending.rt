@@ -3,21 +3,20 @@ ghost use Rattle.std.specs.Prelude.{◌≡◌, ◌+◌, ◌≤◌, length};
 ghost use Rattle.script.specs.Cuts.{isCut};
 ghost use Rattle.script.specs.Inner.Ended.{endsPart, endedCount, startPast};
 
-use recognisers::{TokenKind, is_kind};
+use recognisers::{TokenKind, is_exactly, is_kind};
 use tokenizer::Token;
 
 fn is_cut(script: &[u8], token: Token) -> bool
     requires { token.start + token.len ≤ length script.now }
     ensures { result ≡ isCut script.now token }
 {
-    if token.len != 1 {
-        return false;
-    }
-    if script[token.start] != b';' {
-        return false;
-    }
     let kind = token.kind;
-    is_kind(kind, TokenKind::Operator)
+    if is_kind(kind, TokenKind::Operator) {
+        let start = token.start;
+        let end = start + token.len;
+        return is_exactly(&script[start..end], b";");
+    }
+    false
 }
 
 // The last token ends a part too: what is left behind the last `;`.
