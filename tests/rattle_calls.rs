@@ -32,6 +32,14 @@ extern "C" {
         source: *mut u64,
         start: *mut u64,
     );
+    fn calls_cut(
+        script: *const u8,
+        script_len: usize,
+        places: *mut u8,
+        places_len: usize,
+        number: *mut u64,
+        detail: *mut u64,
+    );
 }
 
 // A number that no call gives, so that one sees it written.
@@ -94,4 +102,20 @@ pub fn lookup_place(
         )
     }
     ((number, detail), [source, start])
+}
+
+// The parts' places are written to the start of `places`.
+pub fn cut(script: &[u8], places: &mut [u8]) -> Answer {
+    let (mut number, mut detail) = (UNWRITTEN, UNWRITTEN);
+    unsafe {
+        calls_cut(
+            script.as_ptr(),
+            script.len(),
+            places.as_mut_ptr(),
+            places.len(),
+            &mut number,
+            &mut detail,
+        )
+    }
+    (number, detail)
 }

@@ -2,13 +2,15 @@
 // no part of the product's boundary, which has none of these calls.
 #![tactic(auto)]
 
-ghost use Rattle.std.specs.Prelude.{◌≡◌};
+ghost use Rattle.std.specs.Prelude.{◌≡◌, length};
 ghost use Rattle.calls.specs.Texts.{textAfter};
 ghost use Rattle.params.specs.Answers.{lookupPart, lookupBytes, lookupCounter, lookupNumber, lookupDetail};
+ghost use Rattle.script.specs.Answers.{cutChecked, cutNumber, cutDetail, cutPlaces};
 ghost use Rattle.calls_exports.specs.Places.{sourceOf, startOf};
 
 use calls::put_bytes;
 use params::{Part, lookup, lookup_part};
+use script::cut;
 
 // The part's bytes are copied to the start of `bytes`, where it has the room.
 #[unsafe(no_mangle)]
@@ -71,4 +73,13 @@ pub extern "C" fn calls_lookup_place(
             *start = at as u64;
         }
     }
+}
+
+#[unsafe(no_mangle)]
+pub extern "C" fn calls_cut(script: &[u8], places: &mut [u8], number: &mut u64, detail: &mut u64)
+    ensures number_after { number.new ≡ cutNumber (cutChecked script.now (length places.old)) }
+    ensures detail_after { detail.new ≡ cutDetail script.now (cutChecked script.now (length places.old)) }
+    ensures places_after { places.new ≡ cutPlaces script.now places.old (cutChecked script.now (length places.old)) }
+{
+    cut(script, places, number, detail);
 }
