@@ -1,4 +1,6 @@
 // The calls that serve Rattle callers alone, for tests in Rust: these link libcalls_exports.a.
+#![allow(dead_code)]
+
 use crate::calls::{Answer, Settings};
 
 extern "C" {

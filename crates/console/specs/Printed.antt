@@ -14,8 +14,11 @@ abbrev pub WrittenInside : TextAnswer → ℕ → Type 0
 WrittenInside (Written n) room = n ≤ room
 WrittenInside (Refused refusal) room = Unit {0}
 
+abbrev pub refusedLine : ℕ → List ℕ
+refusedLine number = codes "refused " ++ decimal number ++ codes "\n"
+
 abbrev pub refusalLine : Refusal → List ℕ
-refusalLine refusal = codes "refused " ++ decimal (refusalNumber refusal) ++ codes "\n"
+refusalLine refusal = refusedLine (refusalNumber refusal)
 
 -- what is printed of an answer and of the output that the call wrote
 abbrev pub answerText : TextAnswer → List ℕ → List ℕ

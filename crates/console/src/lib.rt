@@ -5,7 +5,7 @@
 ghost use Rattle.std.specs.Prelude.{◌≡◌, ◌<◌, ◌++◌, IfSome, IfOk, OnOk, length, take, codes, decimal};
 ghost use Rattle.std.specs.Io.{ReadsAtMost};
 ghost use Rattle.std.specs.Io.KnownBytes.{Appends, Consumes, IsAtEnd};
-ghost use Rattle.console.specs.Printed.{WrittenInside, answerText, refusalLine};
+ghost use Rattle.console.specs.Printed.{WrittenInside, answerText, refusedLine, refusalLine};
 
 use calls::{Refusal, TextAnswer, refusal_number};
 use std::io;
@@ -55,11 +55,17 @@ pub fn print_next<W: Write>(output: &mut W, n: u64) -> io::Result<()>
     write!(output, " {n}")
 }
 
+// A refusal by its number.
+pub fn print_refused<W: Write>(output: &mut W, number: u64) -> io::Result<()>
+    ensures { OnOk result (Appends (W.contents output.old) (W.contents output.new) (refusedLine number)) }
+{
+    writeln!(output, "refused {number}")
+}
+
 pub fn print_refusal<W: Write>(output: &mut W, refusal: Refusal) -> io::Result<()>
     ensures { OnOk result (Appends (W.contents output.old) (W.contents output.new) (refusalLine refusal)) }
 {
-    let number = refusal_number(refusal);
-    writeln!(output, "refused {number}")
+    print_refused(output, refusal_number(refusal))
 }
 
 // The text that a call wrote and nothing else, or its refusal.

@@ -1,3 +1,2 @@
--- What is printed of the tokens, one after the other, and of a statement.
-mod Lines
+-- What is printed of a statement.
 mod Statements

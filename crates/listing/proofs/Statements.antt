@@ -7,7 +7,8 @@ use Rattle.calls.specs.declared.Settings.{Settings}
 use Rattle.console.specs.Printed.{refusalLine}
 use Rattle.console.proofs.Whole.{accepted-whole}
 use Rattle.tokenizer.specs.Tokens.{tokens}
-use Rattle.listing.specs.Printed.{listed, listingPrinted}
+use Rattle.token_lines.specs.Printed.{listed}
+use Rattle.listing.specs.Printed.{listingPrinted}
 
 pub printed-accepted : (s : List ℕ) (settings : Settings) → Accepted settings ≡ checked 0 0 0 s → listed (tokens settings s) ≡ listingPrinted s
 unfolding listingPrinted

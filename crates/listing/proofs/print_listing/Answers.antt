@@ -5,8 +5,8 @@ use Rattle.listing.proofs.print_listing.Goals as goal
 
 pub returns-in-Accepted : goal.returns-in-Accepted
 returns-in-Accepted g c =
-    subst (λ text. OnOk c.list.result (Appends (g.W.Write.contents c.args.output.now) (g.W.Write.contents c.list.new.output) text))
-    (printed-accepted c.args.statement.now _ (sym c.in-Accepted.is ∙ c.check.ensures)) c.list.ensures
+    subst (λ text. OnOk c.print_list.result (Appends (g.W.Write.contents c.args.output.now) (g.W.Write.contents c.print_list.new.output) text))
+    (printed-accepted c.args.statement.now _ (sym c.in-Accepted.is ∙ c.check.ensures)) c.print_list.ensures
 
 pub returns-in-Refused : goal.returns-in-Refused
 returns-in-Refused g c =

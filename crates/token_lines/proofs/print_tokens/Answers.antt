@@ -4,9 +4,9 @@ use Rattle.std.proofs.KnownBytes.{Appends-nil, Appends-trans}
 use Rattle.recognisers.proofs.Unclosed.{truthful-none}
 use Rattle.tokenizer.proofs.LevelLaws.{level-fits, level-low-past, level-low-start}
 use Rattle.tokenizer.proofs.Steps.{step-moves, step-less, step-ends}
-use Rattle.listing.specs.Printed.{tokenLine}
-use Rattle.listing.proofs.Lines.{lines-start, lines-more, lines-end}
-use Rattle.listing.proofs.print_tokens.Goals as goal
+use Rattle.token_lines.specs.Printed.{tokenLine}
+use Rattle.token_lines.proofs.Lines.{lines-start, lines-more, lines-end}
+use Rattle.token_lines.proofs.print_tokens.Goals as goal
 
 pub loop-token-init : goal.loop-token-init
 loop-token-init g c = (record { known = search truthful-none; walked = level-low-start c.at_start-cursor.result }, [], Appends-nil _, lines-start _ _ _ c.at_start-cursor.ensures)

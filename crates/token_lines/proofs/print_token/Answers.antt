@@ -1,9 +1,9 @@
 use Rattle.std.proofs.Common.{subst}
 use Rattle.std.specs.Io.KnownBytes.{Appends}
 use Rattle.std.proofs.KnownBytes.{Appends-trans}
-use Rattle.listing.specs.Printed.{keyFields, tokenLine}
-use Rattle.listing.proofs.Lines.{appends-last}
-use Rattle.listing.proofs.print_token.Goals as goal
+use Rattle.token_lines.specs.Printed.{keyFields, tokenLine}
+use Rattle.token_lines.proofs.Lines.{appends-last}
+use Rattle.token_lines.proofs.print_token.Goals as goal
 
 pub returns : goal.returns
 unfolding tokenLine

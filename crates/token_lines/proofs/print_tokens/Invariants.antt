@@ -3,8 +3,8 @@ use Rattle.std.specs.Io.KnownBytes.{Appends}
 use Rattle.tokenizer.specs.Tokens.{tokens}
 use Rattle.tokenizer.proofs.Steps.{left}
 use Rattle.tokenizer.proofs.Walks.{Going}
-use Rattle.listing.specs.Printed.{linesFrom}
-use Rattle.listing.proofs.print_tokens.Given as goal
+use Rattle.token_lines.specs.Printed.{linesFrom}
+use Rattle.token_lines.proofs.print_tokens.Given as goal
 
 abbrev pub invariant-loop-token : goal.invariant-loop-token
 invariant-loop-token g l =

@@ -9,7 +9,7 @@ use Rattle.tokenizer.specs.Levels.{levelPast}
 use Rattle.tokenizer.specs.Memory.{start}
 use Rattle.tokenizer.specs.Tokens.{tokens}
 use Rattle.tokenizer.proofs.Steps.{left}
-use Rattle.listing.specs.Printed.{tokenLine, linesFrom}
+use Rattle.token_lines.specs.Printed.{tokenLine, linesFrom}
 
 pub lines-start : (settings : Settings) (s : List ℕ) (c : Cursor) → c ≡ record { at = 0; memory = start } → [] ++ linesFrom 0 (left settings s c) ≡ linesFrom 0 (tokens settings s)
 unfolding tokens

@@ -1,0 +1,2 @@
+-- What is printed of the tokens, one after the other.
+pub mod Lines

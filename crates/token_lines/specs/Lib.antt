@@ -1,0 +1,2 @@
+-- What is printed of tokens.
+pub mod Printed
