@@ -115,7 +115,7 @@ $(build)/random_%: tests/random/%.rs $(wildcard tests/random/*.rs) tests/calls.r
 	@mkdir -p $(build)
 	$(rust) -o $@ $< -L target/staticlib -l static=ventpeeler
 
-$(build)/random_cut: tests/random/cut.rs $(wildcard tests/random/*.rs) tests/calls.rs tests/rattle_calls.rs $(archive) target/staticlib/libcalls_exports.a
+$(build)/random_cut: tests/random/cut.rs $(wildcard tests/random/*.rs) tests/cut/places.rs tests/calls.rs tests/rattle_calls.rs $(archive) target/staticlib/libcalls_exports.a
 	@mkdir -p $(build)
 	$(rust) -o $@ $< -L target/staticlib -l static=ventpeeler -l static=calls_exports
 
@@ -127,7 +127,7 @@ $(build)/stack_%: tests/stack/%.rs $(wildcard tests/stack/*) tests/calls.rs test
 	ar rc $(build)/libpainted.a $(build)/painted.o $(build)/painted_fill.o
 	$(rust) -o $@ $< -L $(build) -l static=painted -L target/staticlib -l static=ventpeeler
 
-$(build)/replay_lookup $(build)/replay_cut: $(build)/replay_%: tests/%/replay.rs $(replay_parts) tests/rattle_calls.rs target/staticlib/libcalls_exports.a
+$(build)/replay_lookup $(build)/replay_cut: $(build)/replay_%: tests/%/replay.rs tests/cut/places.rs $(replay_parts) tests/rattle_calls.rs target/staticlib/libcalls_exports.a
 	@mkdir -p $(build)
 	$(rust) -o $@ $< -L target/staticlib -l static=calls_exports
 

@@ -3,6 +3,7 @@
 // with odd bytes behind the places.
 #[path = "../calls.rs"]
 mod calls;
+mod places;
 #[path = "../rattle_calls.rs"]
 mod rattle_calls;
 #[path = "../replaying.rs"]
@@ -11,24 +12,18 @@ mod replaying;
 mod vector_file;
 
 use calls::{Answer, DONE};
+use places::{written, Part, PARTS_FULL, PLACE};
 use replaying::{Count, GUARD, PAST};
 use vector_file::Check;
 
-const PARTS_FULL: u64 = 7;
-const PLACE: usize = 8;
-
-// `r S L N`: N places, the first part starting at S, each L long and starting where the one before ends.
-fn places(check: &Check) -> Vec<u8> {
-    let mut bytes = Vec::new();
+// `r S L N`: N parts, the first one starting at S, each L long and starting where the one before ends.
+fn parts(check: &Check) -> Vec<Part> {
+    let mut parts = Vec::new();
     for run in &check.records {
         let &[start, length, times] = &run[..] else { panic!("line {}", check.line) };
-        for part in 0..times {
-            for word in [start + part * length, length] {
-                bytes.extend_from_slice(&(word as u32).to_le_bytes());
-            }
-        }
+        parts.extend((0..times).map(|part| ((start + part * length) as usize, length as usize)));
     }
-    bytes
+    parts
 }
 
 fn run(check: &Check, lent: usize, expected: Answer, places: &[u8], count: &mut Count) {
@@ -54,7 +49,7 @@ fn rooms(check: &Check) -> Vec<usize> {
 fn main() {
     let mut count = Count::new();
     for check in vector_file::checks("tests/vectors/cut.txt", '=') {
-        let (answer, places) = ((check.numbers[0], check.numbers[1]), places(&check));
+        let (answer, places) = ((check.numbers[0], check.numbers[1]), written(&parts(&check)));
         run(&check, check.inputs.lent, answer, &places, &mut count);
         for lent in rooms(&check).into_iter().filter(|_| answer.0 != PARTS_FULL) {
             let (answer, places) = match answer {

@@ -3,6 +3,8 @@
 #[path = "../calls.rs"]
 mod calls;
 mod lists;
+#[path = "../cut/places.rs"]
+mod places;
 mod properties;
 #[path = "../rattle_calls.rs"]
 mod rattle_calls;
@@ -10,28 +12,19 @@ mod scripts;
 mod texts;
 
 use calls::*;
-use lists::tokens;
+use lists::{refusal, tokens};
+use places::{read, Part, PARTS_FULL, PLACE};
 use properties::*;
 use rattle_calls::cut;
 use texts::Chance;
 
 const GUARD: u8 = 0xA5;
-const PLACE: usize = 8;
-const PARTS_FULL: u64 = 7;
 
 // Generic, joins 0, named 0, whatever the default call is.
 const SETTINGS: Settings = [0, 0, 0];
 const SQLSERVER: Settings = [2, 0, 0];
 
 const OPERATOR: u32 = 8;
-
-// Start and length.
-type Part = (usize, usize);
-
-fn read(places: &[u8]) -> Vec<Part> {
-    let word = |bytes: &[u8]| u32::from_le_bytes(bytes.try_into().unwrap()) as usize;
-    places.chunks(PLACE).map(|place| (word(&place[..4]), word(&place[4..]))).collect()
-}
 
 // None where the call is refused, or tells of more parts than bytes.
 fn parts(script: &[u8]) -> Option<Vec<Part>> {
@@ -45,19 +38,11 @@ fn text(script: &[u8], (start, length): Part) -> &[u8] {
     script.get(start..start + length).unwrap_or(b"")
 }
 
-fn refusal(script: &[u8]) -> Option<Answer> {
-    if script.len() > MOST {
-        return Some((OVERLONG, script.len() as u64));
-    }
-    let error = std::str::from_utf8(script).err()?;
-    Some((NOT_UTF8, error.valid_up_to() as u64))
-}
-
 fn refuses(case: &Case) -> Verdict {
     let mut places = vec![GUARD; 3 * PLACE + 5];
     let answer = cut(&case.text, &mut places);
     let kept = answer.0 == DONE || places.iter().all(|b| *b == GUARD);
-    let as_told = match refusal(&case.text) {
+    let as_told = match refusal(&case.text, SETTINGS) {
         Some(refusal) => answer == refusal,
         None => [DONE, PARTS_FULL].contains(&answer.0) && (answer.0 == DONE) == (answer.1 <= 3),
     };
@@ -66,7 +51,7 @@ fn refuses(case: &Case) -> Verdict {
 
 // Asks a property of the parts of an accepted script.
 fn of_parts(case: &Case, test: fn(&[u8], &[Part]) -> bool) -> Verdict {
-    if refusal(&case.text).is_some() {
+    if refusal(&case.text, SETTINGS).is_some() {
         return Aside;
     }
     match parts(&case.text) {
@@ -110,7 +95,7 @@ fn rest_remains(script: &[u8], ends: &[usize]) -> bool {
 fn counted_by_tokens(case: &Case) -> Verdict {
     let Some(ends) = semicolons(&case.text, SETTINGS) else { return Aside };
     let needed = ends.len() + rest_remains(&case.text, &ends) as usize;
-    let answers = [cut(&case.text, &mut vec![GUARD; PLACE * needed]), cut(&case.text, &mut vec![GUARD; PLACE * case.text.len()])];
+    let answers = [needed, case.text.len()].map(|lent| cut(&case.text, &mut vec![GUARD; PLACE * lent]));
     holds(answers == [(DONE, needed as u64); 2], || format!("answered {:?}, not {}", answers, needed))
 }
 
@@ -147,7 +132,7 @@ fn plain_scripts_by_bytes(case: &Case) -> Verdict {
 }
 
 fn places_are_told(case: &Case) -> Verdict {
-    let (true, Some(expected)) = (refusal(&case.text).is_none(), parts(&case.text)) else { return Aside };
+    let (true, Some(expected)) = (refusal(&case.text, SETTINGS).is_none(), parts(&case.text)) else { return Aside };
     let (needed, exact, most) = (expected.len() as u64, PLACE * expected.len(), PLACE * case.text.len());
     let less = [exact.saturating_sub(PLACE), exact.saturating_sub(1), exact / 2, 0];
     let more = [exact, exact + 1, exact + PLACE - 1, exact + 3 * PLACE, most.saturating_sub(1), most + 3];

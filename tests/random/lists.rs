@@ -1,7 +1,7 @@
-// The list of tokens that a text has, as two lists are compared.
+// The list of tokens that a text has, as two lists are compared, and the refusals of a text.
 #![allow(dead_code)]
 
-use crate::calls::{self, Answer, Settings, DONE, LINE_COMMENT, RECORD, WHITESPACE};
+use crate::calls::{self, Answer, Settings, DONE, LINE_COMMENT, MOST, NOT_UTF8, OVERLONG, RECORD, SETTING, WHITESPACE};
 
 #[derive(Clone, PartialEq, Debug)]
 pub enum Key {
@@ -31,6 +31,18 @@ impl Token {
     pub fn is_gap(&self) -> bool {
         self.kind == WHITESPACE
     }
+}
+
+// The refusal that all calls share, by document 01's table.
+pub fn refusal(text: &[u8], [dialect, joins, named]: Settings) -> Option<Answer> {
+    if dialect > 2 || joins > 1 || named > 1 {
+        return Some((SETTING, 0));
+    }
+    if text.len() > MOST {
+        return Some((OVERLONG, text.len() as u64));
+    }
+    let error = std::str::from_utf8(text).err()?;
+    Some((NOT_UTF8, error.valid_up_to() as u64))
 }
 
 pub fn records(text: &[u8], settings: Settings) -> (Answer, Vec<u8>) {

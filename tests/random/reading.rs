@@ -10,24 +10,11 @@ mod texts;
 
 use calls::*;
 use escapes::escaped_in;
-use lists::{list, records, tight, tight_by_rule, tight_with_spaces, tokens, Key, Token};
+use lists::{list, records, refusal, tight, tight_by_rule, tight_with_spaces, tokens, Key, Token};
 use properties::*;
 use texts::Chance;
 
 const GUARD: u8 = 0xA5;
-
-// The refusal that both calls share, by document 01's table.
-fn refusal(case: &Case) -> Option<Answer> {
-    let [dialect, joins, named] = case.settings;
-    if dialect > 2 || joins > 1 || named > 1 {
-        return Some((SETTING, 0));
-    }
-    if case.text.len() > MOST {
-        return Some((OVERLONG, case.text.len() as u64));
-    }
-    let error = std::str::from_utf8(&case.text).err()?;
-    Some((NOT_UTF8, error.valid_up_to() as u64))
-}
 
 fn refuses(case: &Case) -> Verdict {
     let mut lent = vec![GUARD; 3 * RECORD + 5];
@@ -36,7 +23,7 @@ fn refuses(case: &Case) -> Verdict {
     lent.fill(GUARD);
     let tightened = tighten(&case.text, case.settings, &mut lent);
     let kept = kept && (tightened.0 == DONE || lent.iter().all(|b| *b == GUARD));
-    let as_told = match refusal(case) {
+    let as_told = match refusal(&case.text, case.settings) {
         Some(answer) => read == answer && tightened == answer,
         None => [DONE, TABLE_FULL].contains(&read.0) && [DONE, OUTPUT_FULL].contains(&tightened.0),
     };
@@ -45,7 +32,7 @@ fn refuses(case: &Case) -> Verdict {
 
 // Asks a property of the tokens of an accepted text.
 fn of_tokens(case: &Case, test: fn(&str, &[Token]) -> bool) -> Verdict {
-    if refusal(case).is_some() {
+    if refusal(&case.text, case.settings).is_some() {
         return Aside;
     }
     match (std::str::from_utf8(&case.text), tokens(&case.text, case.settings)) {
