@@ -1,0 +1,10 @@
+use Prim.Native.Nat.{ℕ}
+use mathlib.Core.Path.{◌≡◌, sym}
+use lib.ListN.{length, replicate, length-replicate}
+use Rattle.cutting.proofs.place_space.Goals as goal
+
+zeros : (n : ℕ) → n ≡ length {A = ℕ} (replicate n 0)
+zeros n = sym (length-replicate n 0)
+
+pub returns : goal.returns
+returns c = zeros 524288

@@ -1,0 +1,93 @@
+// Reads a script of several searches from standard input and cuts it into its parts. Of each part it prints a line with start and
+// length, and then the part's tokens as `listing` prints those of a statement, when the part is read alone: their places count from
+// the part's start. Script and parts are read with the cutter's settings (Generic, joins 0, named placeholders 0). Of a script
+// that is refused it prints `refused` and the number.
+#![tactic(auto)]
+
+ghost use Rattle.std.specs.Prelude.{◌≡◌, ◌+◌, ◌≤◌, IfSome, OnOk, length, take};
+ghost use Rattle.std.specs.Io.KnownBytes.{Appends};
+ghost use Rattle.script.specs.Parts.{parts};
+ghost use Rattle.script.specs.Places.{placesOf};
+ghost use Rattle.cutting.specs.Printed.{placeLine, partPrinted, partsPrinted, cuttingPrinted};
+
+use calls::le32_at;
+use console::{print, print_next, print_number, print_refused, read_text, text_space};
+use script::{cut, cutter_settings};
+use std::io;
+use std::io::{BufWriter, Read, Write};
+use token_lines::print_list;
+
+// The place of a part at each byte of the longest script: the places are never full.
+fn place_space() -> [u8; 524288]
+    ensures { 524288 ≡ length result }
+{
+    [0; 524288]
+}
+
+fn print_place<W: Write>(output: &mut W, start: usize, len: usize) -> io::Result<()>
+    ensures { OnOk result (Appends (W.contents output.old) (W.contents output.new) (placeLine (record { start = start; len = len }))) }
+{
+    print_number(output, start as u64)?;
+    print_next(output, len as u64)?;
+    print(output, b"\n")
+}
+
+fn print_part<W: Write>(output: &mut W, script: &[u8], start: usize, len: usize) -> io::Result<()>
+    requires { start + len ≤ length script.now }
+    ensures { OnOk result (Appends (W.contents output.old) (W.contents output.new) (partPrinted script.now (record { start = start; len = len }))) }
+{
+    print_place(output, start, len)?;
+    let end = start + len;
+    print_list(output, &script[start..end], cutter_settings())
+}
+
+// The places as `cut` writes them.
+fn print_parts<W: Write>(
+    output: &mut W,
+    script: &[u8],
+    places: &[u8],
+    count: usize,
+) -> io::Result<()>
+    requires script_len_bound { length script.now ≤ 65536 }
+    requires places_value { take (length (placesOf (parts script.now))) places.now ≡ placesOf (parts script.now) }
+    requires count_value { count ≡ length (parts script.now) }
+    ensures { OnOk result (Appends (W.contents output.old) (W.contents output.new) (partsPrinted script.now (parts script.now))) }
+{
+    for i in 0..count {
+        let at = i * 8;
+        let start = le32_at(places, at);
+        let len = le32_at(places, at + 4);
+        print_part(output, script, start, len)?;
+    }
+    Ok(())
+}
+
+fn print_cut<W: Write>(output: &mut W, script: &[u8], places: &mut [u8]) -> io::Result<()>
+    requires { 524288 ≤ length places.old }
+    ensures { OnOk result (Appends (W.contents output.old) (W.contents output.new) (cuttingPrinted script.now)) }
+{
+    let mut number = 0;
+    let mut detail = 0;
+    cut(script, places, &mut number, &mut detail);
+    if number != 0 {
+        return print_refused(output, number);
+    }
+    print_parts(output, script, places, detail as usize)
+}
+
+// Of a longer script than a call accepts enough is read that it is refused as the whole is.
+fn answer<R: Read, W: Write>(input: &mut R, output: &mut W) -> io::Result<()>
+    ensures { OnOk result (IfSome (R.remaining input.old) (λ script. Appends (W.contents output.old) (W.contents output.new) (cuttingPrinted script))) }
+{
+    let mut space = text_space();
+    let mut places = place_space();
+    let n = read_text(input, &mut space)?;
+    print_cut(output, &space[..n], &mut places)
+}
+
+// Ends with the error where standard input or standard output fails.
+fn main(rt: HostRuntime) -> io::Result<()> {
+    let mut output = BufWriter::new(rt.alloc(), rt.stdout())?;
+    answer(&mut rt.stdin(), &mut output)?;
+    output.flush()
+}
