@@ -31,12 +31,14 @@ all:
 test:
 	@tests/run
 
-bench: $(build)/bench_unicode $(build)/bench_reading $(build)/bench_fill $(build)/bench_slow
+bench: $(build)/bench_unicode $(build)/bench_reading $(build)/bench_fill $(build)/bench_rattle $(build)/bench_slow
 	$(build)/bench_unicode
 	@echo
 	$(build)/bench_reading
 	@echo
 	$(build)/bench_fill
+	@echo
+	$(build)/bench_rattle
 	@echo
 	$(build)/bench_slow
 
@@ -79,6 +81,10 @@ $(build)/bench_unicode: bench/unicode.rs bench/timing.rs tests/unicode/unicode.r
 $(build)/utf8: tests/unicode/utf8.rs tests/unicode/unicode.rs target/staticlib/libunicode_exports.a
 	@mkdir -p $(build)
 	$(rust) -o $@ $< -L target/staticlib -l static=unicode_exports
+
+$(build)/bench_rattle: bench/rattle.rs bench/timing.rs bench/growing.rs bench/searches.rs tests/calls.rs tests/rattle_calls.rs tests/random/texts.rs $(archive) target/staticlib/libcalls_exports.a
+	@mkdir -p $(build)
+	$(rust) -o $@ $< -L target/staticlib -l static=ventpeeler -l static=calls_exports
 
 $(build)/bench_%: bench/%.rs bench/timing.rs bench/growing.rs bench/searches.rs bench/scanner.rs bench/scanner.c tests/calls.rs tests/random/texts.rs $(archive)
 	@mkdir -p $(build)
