@@ -1,12 +1,12 @@
 -- A place reads back as it was written.
 -- Assumes nothing.
-use Prim.Native.Nat.{ℕ, zero, suc, ◌+◌, ◌*◌, ◌^◌, ◌≤◌, ◌<◌}
+use Prim.Native.Nat.{ℕ, zero, suc, ◌+◌, ◌^◌, ◌<◌}
 use native.Mathlib.Omega.{arith}
-use mathlib.Core.Path.{◌≡◌, refl, sym, ap, ◌∙◌}
-use mathlib.Core.List.{List, [], ◌∷◌, ◌++◌}
-use lib.ListN.{drop, get_or}
+use mathlib.Core.Path.{◌≡◌, refl}
+use mathlib.Core.List.{List, ◌++◌}
+use lib.ListN.{drop}
 use lib.Seq.{get_or-drop}
-use Rattle.calls.specs.LittleEndian.{lowBytes, le32, numberAt}
+use Rattle.calls.specs.LittleEndian.{lowBytes, numberAt}
 use Rattle.script.specs.Parts.{Part}
 use Rattle.script.specs.Places.{placeOf}
 

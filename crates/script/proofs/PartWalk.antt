@@ -1,17 +1,15 @@
 -- The walk over the tokens that counts the parts and writes their places. The state is the start of the present part.
 -- Assumes nothing.
-use Prim.Native.Nat.{ℕ, suc, ◌+◌, ◌-◌, ◌*◌, ◌/◌, ◌^◌, ◌≤◌, ◌<◌}
+use Prim.Native.Nat.{ℕ, ◌+◌, ◌-◌, ◌*◌, ◌/◌, ◌^◌, ◌≤◌, ◌<◌}
 use native.Mathlib.Nat.{suc-mul, mul-one}
 use native.Mathlib.Omega.{arith}
 use mathlib.Core.Path.{◌≡◌, refl, sym, ap, ◌∙◌}
-use mathlib.Core.Bool.{Bool, true, false, ◌||◌, cond}
+use mathlib.Core.Bool.{Bool, true, false, cond}
 use mathlib.Core.List.{List, [], ◌∷◌, ◌++◌, append_assoc, append-nil}
 use borrow.Author.Tests.{eq-eqb, ne_eqb, lt-ltb, le-ltb}
 use lib.Dec.{eqb}
 use lib.ListN.{length, drop, length-append}
 use lib.Seq.{sets}
-use mir.Syntax.{w64}
-use mir.Val.{Fits}
 use Rattle.calls.proofs.Storing.{both-put}
 use Rattle.calls.specs.LittleEndian.{lowBytes, le32}
 use Rattle.calls.specs.declared.Settings.{Settings}
@@ -22,13 +20,13 @@ use Rattle.tokenizer.specs.declared.Token.{Token}
 use Rattle.tokenizer.specs.Memory.{start}
 use Rattle.tokenizer.specs.Tokens.{stepAt, tokens}
 use Rattle.tokenizer.proofs.Steps.{step-moves}
-use Rattle.tokenizer.proofs.Walks.{Walk, Counted, count-start, count-fits, count-more, count-end, Wrote, write-start, write-room, write-to, write-count, write-end, text-by-bytes}
+use Rattle.tokenizer.proofs.Walks.{Walk, Counted, count-end, Wrote, write-start, write-room, write-to, write-count, write-end, text-by-bytes}
 use Rattle.script.specs.Settings.{cutterSettings}
 use Rattle.script.specs.Cuts.{isCut}
 use Rattle.script.specs.Parts.{Part, between, partsFrom, parts}
 use Rattle.script.specs.Places.{placeBytes, placeOf, placesOf}
 use Rattle.script.specs.Inner.Ended.{endsPart, endedAt, endedCount, startPast}
-use Rattle.script.proofs.Tiles.{Tile, Tiled, tiled}
+use Rattle.script.proofs.Tiles.{Tiled, tiled}
 
 -- ---- the parts, each with the token that ends it
 

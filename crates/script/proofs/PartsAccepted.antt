@@ -7,7 +7,7 @@ use mathlib.Core.Path.{◌≡◌, refl, sym, ap, ◌∙◌}
 use mathlib.Core.Bool.{Bool, true, false}
 use mathlib.Core.List.{List, [], ◌∷◌, ◌++◌, append-nil}
 use lib.Dec.{ltb}
-use lib.ListN.{length, take, drop, length-drop, drop_of_length-le, take-append-drop}
+use lib.ListN.{length, drop, length-drop, drop_of_length-le, take-append-drop}
 use lib.Seq.{drop-drop, length-take-le}
 use Rattle.characters.specs.Utf8.{wellFormed}
 use Rattle.characters.proofs.ReplacedEnds.{replaced}
@@ -23,7 +23,7 @@ use Rattle.tokenizer.proofs.EachToken.{Each}
 use Rattle.tokenizer.proofs.TokenBoundaries.{Boundary, token-boundaries}
 use Rattle.script.specs.Settings.{cutterSettings}
 use Rattle.script.specs.Cuts.{isCut}
-use Rattle.script.specs.Parts.{Part, between, partText, partsFrom, parts}
+use Rattle.script.specs.Parts.{Part, partText, partsFrom, parts}
 use Rattle.script.proofs.Tiles.{Tiled, tiled}
 use Rattle.script.proofs.PartsEndToEnd.{EachPart, Inside, parts-inside}
 

@@ -1,6 +1,6 @@
 -- The parts of a script laid end to end are the script, and no part is empty.
 -- Assumes nothing.
-use Prim.Native.Nat.{ℕ, ◌+◌, ◌-◌, ◌≤◌, ◌<◌}
+use Prim.Native.Nat.{ℕ, ◌+◌, ◌-◌, ◌≤◌}
 use native.Mathlib.Omega.{arith}
 use mathlib.Core.Path.{◌≡◌, refl, sym, ap, ◌∙◌}
 use mathlib.Core.Bool.{Bool, true, false}
@@ -13,7 +13,7 @@ use Rattle.tokenizer.specs.declared.Token.{Token}
 use Rattle.tokenizer.specs.Tokens.{tokens}
 use Rattle.script.specs.Settings.{cutterSettings}
 use Rattle.script.specs.Cuts.{isCut}
-use Rattle.script.specs.Parts.{Part, between, partText, partsFrom, parts, laid}
+use Rattle.script.specs.Parts.{Part, partsFrom, parts, laid}
 use Rattle.script.proofs.Tiles.{Tiled, tiled}
 
 -- what holds of each part

@@ -38,7 +38,7 @@ use Rattle.tokenizer.specs.NextToken.{fromWord, fromPlaceholder, fromOperator, f
 use Rattle.tokenizer.specs.Tokens.{givenOut, tokensFrom, tokens}
 use Rattle.script.specs.Settings.{cutterSettings}
 use Rattle.script.specs.Cuts.{isCut}
-use Rattle.script.specs.Parts.{Part, partText, partsFrom, parts}
+use Rattle.script.specs.Parts.{partText, partsFrom, parts}
 
 -- the script as one text, its second part, and kind, start and length of each token
 pub script : List ℕ

@@ -1,4 +1,4 @@
-use Rattle.std.proofs.Common.{IfSome, OnOk, length, ◌≡◌, take, sym, ◌∙◌, subst}
+use Rattle.std.proofs.Common.{IfSome, length, ◌≡◌, take, sym, ◌∙◌, subst}
 use Rattle.std.specs.Io.KnownBytes.{Appends}
 use Rattle.console.proofs.Whole.{whole-input}
 use Rattle.cutting.specs.Printed.{cuttingPrinted}
