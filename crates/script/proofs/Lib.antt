@@ -7,3 +7,4 @@ pub mod PartsEndToEnd
 pub mod PartEnds
 pub mod PartsAccepted
 pub mod ReadAlone
+pub mod WorkedScripts
