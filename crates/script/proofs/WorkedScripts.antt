@@ -6,8 +6,8 @@ use mathlib.Core.Path.{◌≡◌, refl}
 use mathlib.Core.List.{List, [], ◌∷◌, map}
 use Rattle.recognisers.specs.Text.{bytes}
 use Rattle.characters.specs.Alphabetic.{alphabetic}
-use Rattle.characters.specs.Character.{isContinuation, continuations, continued, firstBits, withBits, characterLength, codePoint, character}
-use Rattle.characters.specs.Classes.{isWhitespace, isAlphabetic, isNumeric, isMark, isPunctuationConnector, isAlphanumeric, isWordCharacter, isPlaceholderNameCharacter}
+use Rattle.characters.specs.Character.{continuations, continued, firstBits, withBits, characterLength, codePoint}
+use Rattle.characters.specs.Classes.{isWhitespace, isAlphabetic, isNumeric, isMark, isPunctuationConnector, isAlphanumeric, isWordCharacter}
 use Rattle.characters.specs.Connector.{connector}
 use Rattle.characters.specs.Mark.{mark}
 use Rattle.characters.specs.Numeric.{numeric}
@@ -17,7 +17,7 @@ use Rattle.characters.specs.WhiteSpace.{whiteSpace}
 use Rattle.recognisers.specs.Comment.{tillLineEnding, throughBlockEnd, getCommentToken}
 use Rattle.recognisers.specs.Number.{decimalNumber, scientificNotation, unsigned, getNumberToken}
 use Rattle.recognisers.specs.Parens.{getOpenParenToken, getCloseParenToken}
-use Rattle.recognisers.specs.Placeholder.{indexedTaken, getIndexedPlaceholderToken, placeholderName, identTaken, getIdentNamedPlaceholderToken, throughBrace, bracedText, bracedTaken, getBracedNamedPlaceholderToken, stringNamedTaken, getStringNamedPlaceholderToken, getPlaceholderToken}
+use Rattle.recognisers.specs.Placeholder.{indexedTaken, getIndexedPlaceholderToken, identTaken, getIdentNamedPlaceholderToken, throughBrace, bracedText, bracedTaken, getBracedNamedPlaceholderToken, stringNamedTaken, getStringNamedPlaceholderToken, getPlaceholderToken}
 use Rattle.recognisers.specs.Strings.{takeTillEscaping, closedBy, hexTaken, quotedTaken, stringTaken, getStringToken}
 use Rattle.recognisers.specs.Taking.{one, spelled, isSpelled, typed, capital, endOfWord, count, digit1, contains, startsWith}
 use Rattle.recognisers.specs.TypeSpecifier.{getTypeSpecifierToken}
@@ -45,5 +45,5 @@ scripts =
     ∷ []
 
 pub worked : map (λ w. map (λ (p : Part). (p.start, p.len)) (parts w.0)) scripts ≡ map (λ w. w.1) scripts
-unfolding alphabetic isContinuation continuations continued firstBits withBits characterLength codePoint character isWhitespace isAlphabetic isNumeric isMark isPunctuationConnector isAlphanumeric isWordCharacter isPlaceholderNameCharacter connector mark numeric within inRanges inClass run whiteSpace tillLineEnding throughBlockEnd getCommentToken decimalNumber scientificNotation unsigned getNumberToken getOpenParenToken getCloseParenToken indexedTaken getIndexedPlaceholderToken placeholderName identTaken getIdentNamedPlaceholderToken throughBrace bracedText bracedTaken getBracedNamedPlaceholderToken stringNamedTaken getStringNamedPlaceholderToken getPlaceholderToken takeTillEscaping closedBy hexTaken quotedTaken stringTaken getStringToken one spelled isSpelled typed capital endOfWord count digit1 contains startsWith getTypeSpecifierToken getWhitespaceToken isOperator getOperatorToken getWordToken getAnyOtherChar same mayBeReserved getReservedWordToken takesTypeSpecifier afterBetween lastTopLevel remember remembered fromWord fromPlaceholder fromOperator fromReserved fromNumber fromCloseParen fromOpenParen fromString fromTypeSpecifier getNextToken nextPiece givenOut tokensFrom tokens isCut partsFrom parts scripts
+unfolding alphabetic continuations continued firstBits withBits characterLength codePoint isWhitespace isAlphabetic isNumeric isMark isPunctuationConnector isAlphanumeric isWordCharacter connector mark numeric within inRanges inClass run whiteSpace tillLineEnding throughBlockEnd getCommentToken decimalNumber scientificNotation unsigned getNumberToken getOpenParenToken getCloseParenToken indexedTaken getIndexedPlaceholderToken identTaken getIdentNamedPlaceholderToken throughBrace bracedText bracedTaken getBracedNamedPlaceholderToken stringNamedTaken getStringNamedPlaceholderToken getPlaceholderToken takeTillEscaping closedBy hexTaken quotedTaken stringTaken getStringToken one spelled isSpelled typed capital endOfWord count digit1 contains startsWith getTypeSpecifierToken getWhitespaceToken isOperator getOperatorToken getWordToken getAnyOtherChar same mayBeReserved getReservedWordToken takesTypeSpecifier afterBetween lastTopLevel remember remembered fromWord fromPlaceholder fromOperator fromReserved fromNumber fromCloseParen fromOpenParen fromString fromTypeSpecifier getNextToken nextPiece givenOut tokensFrom tokens isCut partsFrom parts scripts
 worked = refl
