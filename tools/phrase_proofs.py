@@ -16,21 +16,21 @@ import sys
 sys.dont_write_bytecode = True
 import phrases  # noqa: E402
 
-PLAIN = phrases.Lists().joined("plainOnePhrases")
+PLAIN = phrases.Lists().joined("plain_one_phrases")
 LISTS = (
-    "entries grouped topLevelPhrases creatable alterableOrDroppable each eachDropped newlineAfterPhrases newlinePhrases"
-    " joinPhrases noIndentPhrases plainTwoPhrases plainOnePhrases " + " ".join(PLAIN)
+    "entries grouped top_level_phrases creatable alterable_or_droppable each each_dropped newline_after_phrases newline_phrases"
+    " join_phrases no_indent_phrases plain_two_phrases plain_one_phrases " + " ".join(PLAIN)
 )
-WORDS = "count isAsciiWord isLetter within"
+WORDS = "count is_ascii_word is_letter within"
 
 USE_LISTS = f"""\
 use Rattle.reserved.specs.Phrases.{{each}}
-use Rattle.reserved.specs.TopLevel.{{creatable, alterableOrDroppable, eachDropped, topLevelPhrases}}
-use Rattle.reserved.specs.NewlineAfter.{{newlineAfterPhrases}}
-use Rattle.reserved.specs.Newline.{{newlinePhrases}}
-use Rattle.reserved.specs.Join.{{joinPhrases}}
-use Rattle.reserved.specs.NoIndent.{{noIndentPhrases}}
-use Rattle.reserved.specs.Plain.{{plainTwoPhrases, plainOnePhrases, {", ".join(PLAIN)}}}
+use Rattle.reserved.specs.TopLevel.{{creatable, alterable_or_droppable, each_dropped, top_level_phrases}}
+use Rattle.reserved.specs.NewlineAfter.{{newline_after_phrases}}
+use Rattle.reserved.specs.Newline.{{newline_phrases}}
+use Rattle.reserved.specs.Join.{{join_phrases}}
+use Rattle.reserved.specs.NoIndent.{{no_indent_phrases}}
+use Rattle.reserved.specs.Plain.{{plain_two_phrases, plain_one_phrases, {", ".join(PLAIN)}}}
 """
 
 ENTRIES_HEAD = f"""\
@@ -41,7 +41,7 @@ use Prim.Native.Nat.{{ℕ}}
 use mathlib.Core.List.{{List, [], ◌∷◌}}
 use mathlib.Core.Path.{{◌≡◌, refl}}
 use Rattle.recognisers.specs.Text.{{bytes}}
-{USE_LISTS}use Rattle.reserved.specs.Inner.Entries.{{grouped, entries, entriesOf}}
+{USE_LISTS}use Rattle.reserved.specs.Inner.Entries.{{grouped, entries, entries_of}}
 """
 
 ENTRIES_OF_A_LETTER = f"""
@@ -49,8 +49,8 @@ unfoldable pub entries-NAME : List (ℕ × List ℕ)
 entries-NAME =
     ENTRIES []
 
-pub is-NAME : entriesOf LETTER entries ≡ entries-NAME
-unfolding entries-NAME entriesOf {LISTS}
+pub is-NAME : entries_of LETTER entries ≡ entries-NAME
+unfolding entries-NAME entries_of {LISTS}
 is-NAME = refl
 """
 
@@ -64,26 +64,26 @@ use mathlib.Core.List.{List, [], ◌∷◌}
 use mathlib.Core.Path.{refl}
 use borrow.Author.Rules.{rules}
 use Rattle.characters.specs.Ranges.{within}
-use Rattle.characters.specs.Ascii.{isLetter, isAsciiWord}
+use Rattle.characters.specs.Ascii.{is_letter, is_ascii_word}
 use Rattle.recognisers.specs.Taking.{count, contains}
-use Rattle.reserved.specs.Inner.Entries.{encoded, entriesLong}
+use Rattle.reserved.specs.Inner.Entries.{encoded, entries_long}
 use Rattle.reserved.proofs.LetterEntries.{entries-NAME, is-NAME}
-use Rattle.reserved.proofs.OtherLengths.{long-is, long-none}
+use Rattle.reserved.proofs.OtherLengths.{long_is, long_none}
 use Rattle.reserved.proofs.tables.find_NAME.Goals as goal
 """
 
 SO_LONG = (
-    "long-is LETTER entries-NAME is-NAME _ _ c.requires LENGTH c.in-LENGTH.is"
+    "long_is LETTER entries-NAME is-NAME _ _ c.requires LENGTH c.in-LENGTH.is"
     " _ _ _ _ c.CALL.ensures.value c.CALL.ensures.found_after refl"
 )
-UNFOLDING_LONG = f"encoded entriesLong {WORDS} entries-NAME"
+UNFOLDING_LONG = f"encoded entries_long {WORDS} entries-NAME"
 
 LENGTHS_OF_A_LETTER = """
 lengths : List ℕ
 lengths = LENGTHS
 """
 
-NONE_SO_LONG = "long-none LETTER entries-NAME is-NAME _ _ c.requires lengths c.args.found.now refl (search rules)"
+NONE_SO_LONG = "long_none LETTER entries-NAME is-NAME _ _ c.requires lengths c.args.found.now refl (search rules)"
 UNFOLDING_NONE_LONG = f"lengths contains {WORDS} entries-NAME"
 
 # ---- the answers of the function that picks a letter's
@@ -96,17 +96,17 @@ use mathlib.Core.List.{{List, [], ◌∷◌}}
 use mathlib.Core.Path.{{ap, refl, ◌∙◌}}
 use borrow.Author.Rules.{{rules}}
 use Rattle.recognisers.specs.Taking.{{contains}}
-{USE_LISTS}use Rattle.reserved.specs.Inner.Entries.{{lengthOf, groupOf, grouped, entries}}
-use Rattle.reserved.proofs.FirstEntry.{{letter-is, none-is, empty-length, empty-group}}
+{USE_LISTS}use Rattle.reserved.specs.Inner.Entries.{{length_of, group_of, grouped, entries}}
+use Rattle.reserved.proofs.FirstEntry.{{letter_is, none_is, empty_length, empty_group}}
 use Rattle.reserved.proofs.tables.find_phrase.Goals as goal
 """
 
-NO_TEXT = ("empty-length _ c.if-rest-eq0.true", "empty-group _ c.if-rest-eq0.true _")
+NO_TEXT = ("empty_length _ c.if-rest-eq0.true", "empty_group _ c.if-rest-eq0.true _")
 
-BY_LETTER = "(letter-is _ _ c.capital_of-letter.ensures LETTER c.in-LETTER.is)"
+BY_LETTER = "(letter_is _ _ c.capital_of-letter.ensures LETTER c.in-LETTER.is)"
 FOUND_BY_LETTER = (
-    f"c.find_NAME.ensures.value ∙ ap lengthOf {BY_LETTER}",
-    f"c.find_NAME.ensures.found_after ∙ ap (groupOf _) {BY_LETTER}",
+    f"c.find_NAME.ensures.value ∙ ap length_of {BY_LETTER}",
+    f"c.find_NAME.ensures.found_after ∙ ap (group_of _) {BY_LETTER}",
 )
 
 LETTERS = """
@@ -114,8 +114,8 @@ letters : List ℕ
 letters = NUMBERS
 """
 
-NO_LETTER = "(none-is _ _ c.capital_of-letter.ensures letters refl (search rules))"
-FOUND_BY_NO_LETTER = (f"ap lengthOf {NO_LETTER}", f"ap (groupOf _) {NO_LETTER}")
+NO_LETTER = "(none_is _ _ c.capital_of-letter.ensures letters refl (search rules))"
+FOUND_BY_NO_LETTER = (f"ap length_of {NO_LETTER}", f"ap (group_of _) {NO_LETTER}")
 UNFOLDING_NO_LETTER = f"letters contains {LISTS}"
 
 

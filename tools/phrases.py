@@ -41,15 +41,15 @@ class Lists:
         self.text = "\n".join(path.read_text(encoding="utf-8") for path in sorted(SPECS.rglob("*.antt")))
         defined = r"^unfoldable pub (\w+) : List (?:Phrase|\(List ℕ\))\n\1 =(.*(?:\n .*)*)"
         self.bodies = dict(re.findall(defined, self.text, re.MULTILINE))
-        self.dropped = self.one(r'^eachDropped \(last ∷ lasts\) = phraseIfExists \(bytes "([^"]*)" \+\+ last\)')
-        self.if_exists = self.one(r'^grouped group \(phraseIfExists words ∷ phrases\) = \(byte "(.)", words\)')
+        self.dropped = self.one(r'^each_dropped \(last ∷ lasts\) = phrase_if_exists \(bytes "([^"]*)" \+\+ last\)')
+        self.if_exists = self.one(r'^grouped group \(phrase_if_exists words ∷ phrases\) = \(byte "(.)", words\)')
         # an item's form, and what it stands for
         self.items = (
             (r"\[\]", lambda: []),
             (r'bytes "([^"]*)"', lambda words: [(False, words)]),
             (r'phrase \(bytes "([^"]*)"\)', lambda words: [(False, words)]),
             (r'each \(bytes "([^"]*)"\) (\w+)', lambda words, name: self.behind(words, name, False)),
-            (r"eachDropped (\w+)", lambda name: self.behind(self.dropped, name, True)),
+            (r"each_dropped (\w+)", lambda name: self.behind(self.dropped, name, True)),
             (r"(\w+)", self.list),
         )
 
@@ -129,8 +129,8 @@ TABLES_HEAD = """\
 // One decision on the first letter and one on the first word's length pick the table in which a phrase is looked for. Made by
 // tools/phrases.py from the lists in specs/.
 ghost use Rattle.std.specs.Prelude.{◌≡◌};
-ghost use Rattle.reserved.specs.Inner.Entries.{lengthOf, groupOf, entries, entriesOf, findEntry};
-ghost use Rattle.recognisers.specs.Inner.WordLength.{wordLength};
+ghost use Rattle.reserved.specs.Inner.Entries.{length_of, group_of, entries, entries_of, find_entry};
+ghost use Rattle.recognisers.specs.Inner.WordLength.{word_length};
 
 use crate::find::find_in;
 use crate::phrases;
@@ -139,9 +139,9 @@ use recognisers::capital_of;
 
 OF_A_LETTER = """
 fn find_NAME(rest: &[u8], n: usize, found: &mut u8) -> usize
-    requires { n ≡ wordLength rest.now }
-    ensures value { result ≡ lengthOf (findEntry (entriesOf LETTER entries) rest.now) }
-    ensures found_after { found.new ≡ groupOf found.old (findEntry (entriesOf LETTER entries) rest.now) }
+    requires { n ≡ word_length rest.now }
+    ensures value { result ≡ length_of (find_entry (entries_of LETTER entries) rest.now) }
+    ensures found_after { found.new ≡ group_of found.old (find_entry (entries_of LETTER entries) rest.now) }
 {
     match n {
 ARMS        _ => 0,
@@ -152,9 +152,9 @@ ARMS        _ => 0,
 OF_ALL = """
 // The first phrase that stands at the start of the rest: how many bytes it takes, or 0. Its group's letter is written to `found`.
 pub fn find_phrase(rest: &[u8], n: usize, found: &mut u8) -> usize
-    requires { n ≡ wordLength rest.now }
-    ensures value { result ≡ lengthOf (findEntry entries rest.now) }
-    ensures found_after { found.new ≡ groupOf found.old (findEntry entries rest.now) }
+    requires { n ≡ word_length rest.now }
+    ensures value { result ≡ length_of (find_entry entries rest.now) }
+    ensures found_after { found.new ≡ group_of found.old (find_entry entries rest.now) }
 {
     if rest.len() == 0 {
         return 0;

@@ -38,7 +38,7 @@ fn classes() -> Vec<Class> {
         from: from.clone(),
     };
     vec![
-        class("WhiteSpace", "white_space", "whiteSpace", "White_Space", char::is_whitespace, &rustc),
+        class("WhiteSpace", "white_space", "white_space", "White_Space", char::is_whitespace, &rustc),
         class("Alphabetic", "alphabetic", "alphabetic", "Alphabetic", char::is_alphabetic, &rustc),
         class("Numeric", "numeric", "numeric", "Numeric: the categories Nd, Nl and No", char::is_numeric, &rustc),
         class("Mark", "mark", "mark", "Marks: the categories Mn, Mc and Me", |c| c.is_mark(), &old),
@@ -86,7 +86,7 @@ fn source(class: &Class, ranges: &[Range]) -> String {
     writeln!(out, "// Each range is its first code point and the one past its last. An array has at most {MOST} ranges.").unwrap();
     writeln!(out, "// A lookup borrows the one that it reaches: a copy would cost every call its size of stack.").unwrap();
     writeln!(out, "ghost use Rattle.std.specs.Prelude.{{◌≡◌}};").unwrap();
-    writeln!(out, "ghost use Rattle.characters.specs.Ranges.{{inRanges}};").unwrap();
+    writeln!(out, "ghost use Rattle.characters.specs.Ranges.{{in_ranges}};").unwrap();
     writeln!(out, "ghost use Rattle.characters.specs.{}.{{{}}};", class.file, class.definition).unwrap();
     writeln!(out, "\nuse crate::ranges::in_ranges;").unwrap();
     for chunk in &chunks {
@@ -97,7 +97,7 @@ fn source(class: &Class, ranges: &[Range]) -> String {
         writeln!(out, "];").unwrap();
     }
     writeln!(out, "\npub fn contains(c: u32) -> bool").unwrap();
-    writeln!(out, "    ensures {{ result ≡ inRanges {} c }}\n{{", class.definition).unwrap();
+    writeln!(out, "    ensures {{ result ≡ in_ranges {} c }}\n{{", class.definition).unwrap();
     if chunks.len() == 1 {
         writeln!(out, "    in_ranges(&FROM_{:04X}, c)\n}}", chunks[0][0].0).unwrap();
         return out;
@@ -120,12 +120,12 @@ fn answers(class: &Class, ranges: &[Range]) -> String {
     let Class { file, module, definition, .. } = class;
     let law = format!("{}-ordered", module.replace('_', "-"));
     let chunks: Vec<&[Range]> = ranges.chunks(MOST).collect();
-    let laws = if chunks.len() == 1 { "last-part-is" } else { "part-is, last-part-is" };
+    let laws = if chunks.len() == 1 { "last_part_is" } else { "part_is, last_part_is" };
     let mut out = String::new();
     writeln!(out, "-- Each arm looks in the part of the table that serves its code points. Made by tools/tables.rs.").unwrap();
     writeln!(out, "-- Assumes nothing.").unwrap();
     writeln!(out, "use native.Mathlib.Omega.{{arith}}\nuse mathlib.Core.Path.{{refl}}").unwrap();
-    writeln!(out, "use Rattle.characters.specs.Inner.Ends.{{endsOf}}").unwrap();
+    writeln!(out, "use Rattle.characters.specs.Inner.Ends.{{ends_of}}").unwrap();
     writeln!(out, "use Rattle.characters.specs.{file}.{{{definition}}}").unwrap();
     writeln!(out, "use Rattle.characters.proofs.Ordered.{{{law}}}").unwrap();
     writeln!(out, "use Rattle.characters.proofs.TableParts.{{{laws}}}").unwrap();
@@ -143,10 +143,10 @@ fn answers(class: &Class, ranges: &[Range]) -> String {
         let call = if i == 0 { "in_ranges".to_string() } else { format!("in_ranges{arm}") };
         let part = format!("{definition} {law} {} {} {low:#06X}", i * MOST, chunk.len());
         let answer = match high {
-            Some(high) => format!("part-is {part} {high:#06X} refl _ _ (omega arith) (omega arith)"),
-            None => format!("last-part-is {part} refl refl _ _ (omega arith)"),
+            Some(high) => format!("part_is {part} {high:#06X} refl _ _ (omega arith) (omega arith)"),
+            None => format!("last_part_is {part} refl refl _ _ (omega arith)"),
         };
-        writeln!(out, "\npub {goal} : goal.{goal}\nunfolding {definition} endsOf").unwrap();
+        writeln!(out, "\npub {goal} : goal.{goal}\nunfolding {definition} ends_of").unwrap();
         writeln!(out, "{goal} c = {answer} c.{call}.ensures").unwrap();
     }
     out

@@ -9,13 +9,13 @@ use lib.ListN.{length, take, drop, set, length-append, length-drop, drop_of_leng
 use lib.Seq.{sets, sets-eq, length-take-le, take_all, take_at, drop-append-add, drop-drop}
 use borrow.Rule.Slice.PartMut.{put_mid}
 
-pub both-put : (vs ws table : List ℕ) (i : ℕ) → sets (sets table i vs) (i + length vs) ws ≡ sets table i (vs ++ ws)
-both-put [] ws table i = rw add-zero
-both-put (v ∷ vs) ws table i = rw (add-suc, ← suc-add) (both-put vs ws (set table i v) (suc i))
+pub both_put : (vs ws table : List ℕ) (i : ℕ) → sets (sets table i vs) (i + length vs) ws ≡ sets table i (vs ++ ws)
+both_put [] ws table i = rw add-zero
+both_put (v ∷ vs) ws table i = rw (add-suc, ← suc-add) (both_put vs ws (set table i v) (suc i))
 
 -- bytes put where the written part ends
-pub append-put : (before vs table : List ℕ) (i : ℕ) → length before ≡ i → i + length vs ≤ length table → sets (before ++ drop i table) i vs ≡ (before ++ vs) ++ drop (i + length vs) table
-append-put before vs table i e h =
+pub append_put : (before vs table : List ℕ) (i : ℕ) → length before ≡ i → i + length vs ≤ length table → sets (before ++ drop i table) i vs ≡ (before ++ vs) ++ drop (i + length vs) table
+append_put before vs table i e h =
     let n : length (before ++ drop i table) ≡ length table = rw (length-append, length-drop, e) (omega arith) in
     sets-eq vs (before ++ drop i table) i (omega arith)
     ∙ rw (take_at before (drop i table) i e)
@@ -23,9 +23,9 @@ append-put before vs table i e h =
     (rw (← e) (drop-append-add before (drop (length before) table) (length vs) ∙ drop-drop (length vs) (length before) table)))
 
 -- bytes copied over a part that is as long
-pub copy-put : (bytes output part : List ℕ) (at : ℕ) → at + length bytes ≤ length output → part ≡ bytes
+pub copy_put : (bytes output part : List ℕ) (at : ℕ) → at + length bytes ≤ length output → part ≡ bytes
     → put_mid at (at + length bytes - at) output part ≡ sets output at bytes
-copy-put bytes output part at h e =
+copy_put bytes output part at h e =
     let room : at + length bytes - at ≡ length bytes = omega arith in
     rw (e, room, drop-drop, ← append_assoc) (sym (sets-eq bytes output at h))
 
@@ -34,12 +34,12 @@ module _ (start len : ℕ) where
   pub back : start + len - start ≡ len
   back = omega arith
 
-  pub part-length : (source : List ℕ) → start + len ≤ length source → length (take len (drop start source)) ≡ len
-  part-length source h = length-take-le len (drop start source) (rw length-drop (omega arith))
+  pub part_length_lem : (source : List ℕ) → start + len ≤ length source → length (take len (drop start source)) ≡ len
+  part_length_lem source h = length-take-le len (drop start source) (rw length-drop (omega arith))
 
   module _ (source output : List ℕ) (at : ℕ) where
-    pub part-room : start + len ≤ length source → at + len ≤ length output → at + length (take (start + len - start) (drop start source)) ≤ length output
-    part-room h k = rw (back, part-length source h) k
+    pub part_room : start + len ≤ length source → at + len ≤ length output → at + length (take (start + len - start) (drop start source)) ≤ length output
+    part_room h k = rw (back, part_length_lem source h) k
 
-    pub part-put : (after : List ℕ) → after ≡ sets output at (take (start + len - start) (drop start source)) → after ≡ sets output at (take len (drop start source))
-    part-put after e = e ∙ rw back
+    pub part_put : (after : List ℕ) → after ≡ sets output at (take (start + len - start) (drop start source)) → after ≡ sets output at (take len (drop start source))
+    part_put after e = e ∙ rw back

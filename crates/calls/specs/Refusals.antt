@@ -3,20 +3,20 @@ use Rattle.std.specs.Prelude.{ℕ}
 use Rattle.calls.specs.declared.Refusal.{Refusal}
 use Rattle.calls.specs.declared.Refusal.TheVariants.{Overlong, NotUtf8, Setting, TableFull, Sheet, OutputFull, PartsFull}
 
-abbrev pub refusalNumber : Refusal → ℕ
-refusalNumber (Overlong n) = 1
-refusalNumber (NotUtf8 n) = 2
-refusalNumber Setting = 3
-refusalNumber (TableFull n) = 4
-refusalNumber Sheet = 5
-refusalNumber (OutputFull n) = 6
-refusalNumber (PartsFull n) = 7
+abbrev pub refusal_number : Refusal → ℕ
+refusal_number (Overlong n) = 1
+refusal_number (NotUtf8 n) = 2
+refusal_number Setting = 3
+refusal_number (TableFull n) = 4
+refusal_number Sheet = 5
+refusal_number (OutputFull n) = 6
+refusal_number (PartsFull n) = 7
 
-abbrev pub refusalDetail : Refusal → ℕ
-refusalDetail (Overlong n) = n
-refusalDetail (NotUtf8 n) = n
-refusalDetail Setting = 0
-refusalDetail (TableFull n) = n
-refusalDetail Sheet = 0
-refusalDetail (OutputFull n) = n
-refusalDetail (PartsFull n) = n
+abbrev pub refusal_detail : Refusal → ℕ
+refusal_detail (Overlong n) = n
+refusal_detail (NotUtf8 n) = n
+refusal_detail Setting = 0
+refusal_detail (TableFull n) = n
+refusal_detail Sheet = 0
+refusal_detail (OutputFull n) = n
+refusal_detail (PartsFull n) = n

@@ -5,11 +5,11 @@ use Rattle.recognisers.specs.declared.Dialect.TheVariants.{Generic, PostgreSql, 
 use Rattle.calls.specs.declared.Settings.{Settings}
 
 -- dialects 0 to 2, flags 0 or 1
-unfoldable pub isSetting : ℕ → ℕ → ℕ → Bool
-isSetting dialect joins named = leb dialect 2 && (leb joins 1 && leb named 1)
+unfoldable pub is_setting : ℕ → ℕ → ℕ → Bool
+is_setting dialect joins named = leb dialect 2 && (leb joins 1 && leb named 1)
 
-unfoldable pub dialectOf : ℕ → Dialect
-dialectOf dialect = cond (eqb dialect 0) Generic (cond (eqb dialect 1) PostgreSql SQLServer)
+unfoldable pub dialect_of : ℕ → Dialect
+dialect_of dialect = cond (eqb dialect 0) Generic (cond (eqb dialect 1) PostgreSql SQLServer)
 
-unfoldable pub settingsOf : ℕ → ℕ → ℕ → Settings
-settingsOf dialect joins named = record { dialect = dialectOf dialect; joins = eqb joins 1; named = eqb named 1 }
+unfoldable pub settings_of : ℕ → ℕ → ℕ → Settings
+settings_of dialect joins named = record { dialect = dialect_of dialect; joins = eqb joins 1; named = eqb named 1 }

@@ -5,33 +5,33 @@ use Rattle.calls.specs.declared.Refusal.TheVariants.{OutputFull}
 use Rattle.calls.specs.declared.Settings.{Settings}
 use Rattle.calls.specs.declared.TextAnswer.{TextAnswer}
 use Rattle.calls.specs.declared.TextAnswer.TheVariants.{Written, Refused}
-use Rattle.calls.specs.Checks.{acceptedOr}
-use Rattle.calls.specs.Refusals.{refusalNumber, refusalDetail}
+use Rattle.calls.specs.Checks.{accepted_or}
+use Rattle.calls.specs.Refusals.{refusal_number, refusal_detail}
 
 -- a text for an output of so many bytes
-unfoldable pub textAnswer : List ℕ → ℕ → TextAnswer
-textAnswer text room = cond (ltb room (length text)) (Refused (OutputFull (length text))) (Written (length text))
+unfoldable pub text_answer : List ℕ → ℕ → TextAnswer
+text_answer text room = cond (ltb room (length text)) (Refused (OutputFull (length text))) (Written (length text))
 
 -- an output once a text is written over its start
-abbrev pub writtenOver : List ℕ → List ℕ → List ℕ
-writtenOver text output = text ++ drop (length text) output
+abbrev pub written_over : List ℕ → List ℕ → List ℕ
+written_over text output = text ++ drop (length text) output
 
 -- the same where it has the room, and the output as it was where it has not
-unfoldable pub textAfter : List ℕ → List ℕ → List ℕ
-textAfter text output = cond (ltb (length output) (length text)) output (writtenOver text output)
+unfoldable pub text_after : List ℕ → List ℕ → List ℕ
+text_after text output = cond (ltb (length output) (length text)) output (written_over text output)
 
 -- the same of a call whose text depends on the settings; a refusal writes nothing
-unfoldable pub callAnswer : (Settings → List ℕ) → ℕ → Checked → TextAnswer
-callAnswer text room = acceptedOr (λ settings. textAnswer (text settings) room) Refused
+unfoldable pub call_answer : (Settings → List ℕ) → ℕ → Checked → TextAnswer
+call_answer text room = accepted_or (λ settings. text_answer (text settings) room) Refused
 
-unfoldable pub callOutput : (Settings → List ℕ) → List ℕ → Checked → List ℕ
-callOutput text output = acceptedOr (λ settings. textAfter (text settings) output) (λ refusal. output)
+unfoldable pub call_output : (Settings → List ℕ) → List ℕ → Checked → List ℕ
+call_output text output = accepted_or (λ settings. text_after (text settings) output) (λ refusal. output)
 
 -- the number, and the detail beside it
-abbrev pub textNumber : TextAnswer → ℕ
-textNumber (Written n) = 0
-textNumber (Refused refusal) = refusalNumber refusal
+abbrev pub text_number : TextAnswer → ℕ
+text_number (Written n) = 0
+text_number (Refused refusal) = refusal_number refusal
 
-abbrev pub textDetail : TextAnswer → ℕ
-textDetail (Written n) = n
-textDetail (Refused refusal) = refusalDetail refusal
+abbrev pub text_detail : TextAnswer → ℕ
+text_detail (Written n) = n
+text_detail (Refused refusal) = refusal_detail refusal

@@ -1,14 +1,14 @@
 // The refusals that all calls share: setting, overlong, not UTF-8.
 ghost use Rattle.std.specs.Prelude.{◌≡◌};
-ghost use Rattle.calls.specs.Settings.{isSetting, dialectOf, settingsOf};
-ghost use Rattle.calls.specs.Checks.{checkedText, checked};
+ghost use Rattle.calls.specs.Settings.{is_setting, dialect_of, settings_of};
+ghost use Rattle.calls.specs.Checks.{checked_text, checked};
 
 use crate::{Checked, Refusal, Settings};
 use characters::{IllFormed, first_ill_formed};
 use recognisers::Dialect;
 
 fn is_setting(dialect: u64, joins: u64, named: u64) -> bool
-    ensures { result ≡ isSetting dialect joins named }
+    ensures { result ≡ is_setting dialect joins named }
 {
     if 2 < dialect {
         return false;
@@ -20,7 +20,7 @@ fn is_setting(dialect: u64, joins: u64, named: u64) -> bool
 }
 
 fn dialect_of(dialect: u64) -> Dialect
-    ensures { result ≡ dialectOf dialect }
+    ensures { result ≡ dialect_of dialect }
 {
     if dialect == 0 {
         return Dialect::Generic;
@@ -32,7 +32,7 @@ fn dialect_of(dialect: u64) -> Dialect
 }
 
 fn settings_of(dialect: u64, joins: u64, named: u64) -> Settings
-    ensures { result ≡ settingsOf dialect joins named }
+    ensures { result ≡ settings_of dialect joins named }
 {
     let read = dialect_of(dialect);
     Settings {
@@ -43,7 +43,7 @@ fn settings_of(dialect: u64, joins: u64, named: u64) -> Settings
 }
 
 fn check_text(statement: &[u8], settings: Settings) -> Checked
-    ensures { result ≡ checkedText settings statement.now }
+    ensures { result ≡ checked_text settings statement.now }
 {
     if 65536 < statement.len() {
         return Checked::Refused(Refusal::Overlong(statement.len() as u64));

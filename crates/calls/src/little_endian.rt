@@ -1,7 +1,7 @@
 // Numbers of two, three and four bytes, the lowest first.
 ghost use Rattle.std.specs.Prelude.{◌≡◌, ◌+◌, ◌^◌, ◌%◌, ◌≤◌, ◌<◌, length};
 ghost use Rattle.std.proofs.lemmas.List.Edits.{sets};
-ghost use Rattle.calls.specs.LittleEndian.{lowBytes, numberAt};
+ghost use Rattle.calls.specs.LittleEndian.{low_bytes, number_at};
 
 fn low_byte(n: u64) -> u8
     ensures { result ≡ n % 256 }
@@ -11,7 +11,7 @@ fn low_byte(n: u64) -> u8
 
 pub fn put_le16(bytes: &mut [u8], at: usize, n: u64)
     requires { at + 2 ≤ length bytes.old }
-    ensures { bytes.new ≡ sets bytes.old at (lowBytes 2 n) }
+    ensures { bytes.new ≡ sets bytes.old at (low_bytes 2 n) }
 {
     bytes[at] = low_byte(n);
     bytes[at + 1] = low_byte(n / 256);
@@ -19,7 +19,7 @@ pub fn put_le16(bytes: &mut [u8], at: usize, n: u64)
 
 pub fn put_le24(bytes: &mut [u8], at: usize, n: u64)
     requires { at + 3 ≤ length bytes.old }
-    ensures { bytes.new ≡ sets bytes.old at (lowBytes 3 n) }
+    ensures { bytes.new ≡ sets bytes.old at (low_bytes 3 n) }
 {
     bytes[at] = low_byte(n);
     bytes[at + 1] = low_byte(n / 256);
@@ -28,7 +28,7 @@ pub fn put_le24(bytes: &mut [u8], at: usize, n: u64)
 
 pub fn put_le32(bytes: &mut [u8], at: usize, n: u64)
     requires { at + 4 ≤ length bytes.old }
-    ensures { bytes.new ≡ sets bytes.old at (lowBytes 4 n) }
+    ensures { bytes.new ≡ sets bytes.old at (low_bytes 4 n) }
 {
     bytes[at] = low_byte(n);
     bytes[at + 1] = low_byte(n / 256);
@@ -45,7 +45,7 @@ fn wide(b: u8) -> usize
 
 pub fn le16_at(bytes: &[u8], at: usize) -> usize
     requires { at + 2 ≤ length bytes.now }
-    ensures value { result ≡ numberAt 2 bytes.now at }
+    ensures value { result ≡ number_at 2 bytes.now at }
     ensures upper_bound { result < 65536 }
 {
     wide(bytes[at]) + 256 * wide(bytes[at + 1])
@@ -53,7 +53,7 @@ pub fn le16_at(bytes: &[u8], at: usize) -> usize
 
 pub fn le24_at(bytes: &[u8], at: usize) -> usize
     requires { at + 3 ≤ length bytes.now }
-    ensures value { result ≡ numberAt 3 bytes.now at }
+    ensures value { result ≡ number_at 3 bytes.now at }
     ensures upper_bound { result < 2 ^ 24 }
 {
     wide(bytes[at]) + 256 * le16_at(bytes, at + 1)
@@ -61,7 +61,7 @@ pub fn le24_at(bytes: &[u8], at: usize) -> usize
 
 pub fn le32_at(bytes: &[u8], at: usize) -> usize
     requires { at + 4 ≤ length bytes.now }
-    ensures value { result ≡ numberAt 4 bytes.now at }
+    ensures value { result ≡ number_at 4 bytes.now at }
     ensures upper_bound { result < 2 ^ 32 }
 {
     wide(bytes[at]) + 256 * le24_at(bytes, at + 1)

@@ -1,11 +1,11 @@
 // A refusal as two numbers.
 ghost use Rattle.std.specs.Prelude.{◌≡◌};
-ghost use Rattle.calls.specs.Refusals.{refusalNumber, refusalDetail};
+ghost use Rattle.calls.specs.Refusals.{refusal_number, refusal_detail};
 
 use crate::Refusal;
 
 pub fn refusal_number(refusal: Refusal) -> u64
-    ensures { result ≡ refusalNumber refusal }
+    ensures { result ≡ refusal_number refusal }
 {
     match refusal {
         Refusal::Overlong(_) => 1,
@@ -19,7 +19,7 @@ pub fn refusal_number(refusal: Refusal) -> u64
 }
 
 pub fn refusal_detail(refusal: Refusal) -> u64
-    ensures { result ≡ refusalDetail refusal }
+    ensures { result ≡ refusal_detail refusal }
 {
     match refusal {
         Refusal::Overlong(n) => n,

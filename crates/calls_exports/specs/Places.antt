@@ -4,10 +4,10 @@ use Rattle.params.specs.declared.Part.{Part}
 use Rattle.params.specs.declared.Part.TheVariants.{Statement, Sheet}
 
 -- 0 the statement, 1 the sheet
-abbrev pub sourceOf : Part → ℕ
-sourceOf (Statement start len) = 0
-sourceOf (Sheet start len) = 1
+abbrev pub source_of : Part → ℕ
+source_of (Statement start len) = 0
+source_of (Sheet start len) = 1
 
-abbrev pub startOf : Part → ℕ
-startOf (Statement start len) = start
-startOf (Sheet start len) = start
+abbrev pub start_of : Part → ℕ
+start_of (Statement start len) = start
+start_of (Sheet start len) = start

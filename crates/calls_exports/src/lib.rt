@@ -3,10 +3,10 @@
 #![tactic(auto)]
 
 ghost use Rattle.std.specs.Prelude.{◌≡◌, length};
-ghost use Rattle.calls.specs.Texts.{textAfter};
-ghost use Rattle.params.specs.Answers.{lookupPart, lookupBytes, lookupCounter, lookupNumber, lookupDetail};
-ghost use Rattle.script.specs.Answers.{cutChecked, cutNumber, cutDetail, cutPlaces};
-ghost use Rattle.calls_exports.specs.Places.{sourceOf, startOf};
+ghost use Rattle.calls.specs.Texts.{text_after};
+ghost use Rattle.params.specs.Answers.{lookup_part, lookup_bytes, lookup_counter, lookup_number, lookup_detail};
+ghost use Rattle.script.specs.Answers.{cut_checked, cut_number, cut_detail, cut_places};
+ghost use Rattle.calls_exports.specs.Places.{source_of, start_of};
 
 use calls::put_bytes;
 use params::{Part, lookup, lookup_part};
@@ -26,10 +26,10 @@ pub extern "C" fn calls_lookup<'a>(
     detail: &mut u64,
     bytes: &mut [u8],
 )
-    ensures counter_after { counter.new ≡ lookupCounter statement.now dialect joins named sheet.now place counter.old }
-    ensures number_after { number.new ≡ lookupNumber statement.now dialect joins named sheet.now }
-    ensures detail_after { detail.new ≡ lookupDetail statement.now dialect joins named sheet.now place counter.old }
-    ensures bytes_after { bytes.new ≡ textAfter (lookupBytes statement.now dialect joins named sheet.now place counter.old) bytes.old }
+    ensures counter_after { counter.new ≡ lookup_counter statement.now dialect joins named sheet.now place counter.old }
+    ensures number_after { number.new ≡ lookup_number statement.now dialect joins named sheet.now }
+    ensures detail_after { detail.new ≡ lookup_detail statement.now dialect joins named sheet.now place counter.old }
+    ensures bytes_after { bytes.new ≡ text_after (lookup_bytes statement.now dialect joins named sheet.now place counter.old) bytes.old }
 {
     let part = lookup(
         statement, dialect, joins, named, sheet, place, counter, number, detail,
@@ -54,11 +54,11 @@ pub extern "C" fn calls_lookup_place(
     source: &mut u64,
     start: &mut u64,
 )
-    ensures counter_after { counter.new ≡ lookupCounter statement.now dialect joins named sheet.now place counter.old }
-    ensures number_after { number.new ≡ lookupNumber statement.now dialect joins named sheet.now }
-    ensures detail_after { detail.new ≡ lookupDetail statement.now dialect joins named sheet.now place counter.old }
-    ensures source_after { source.new ≡ sourceOf (lookupPart statement.now dialect joins named sheet.now place counter.old) }
-    ensures start_after { start.new ≡ startOf (lookupPart statement.now dialect joins named sheet.now place counter.old) }
+    ensures counter_after { counter.new ≡ lookup_counter statement.now dialect joins named sheet.now place counter.old }
+    ensures number_after { number.new ≡ lookup_number statement.now dialect joins named sheet.now }
+    ensures detail_after { detail.new ≡ lookup_detail statement.now dialect joins named sheet.now place counter.old }
+    ensures source_after { source.new ≡ source_of (lookup_part statement.now dialect joins named sheet.now place counter.old) }
+    ensures start_after { start.new ≡ start_of (lookup_part statement.now dialect joins named sheet.now place counter.old) }
 {
     let part = lookup_part(
         statement, dialect, joins, named, sheet, place, counter, number, detail,
@@ -77,9 +77,9 @@ pub extern "C" fn calls_lookup_place(
 
 #[unsafe(no_mangle)]
 pub extern "C" fn calls_cut(script: &[u8], places: &mut [u8], number: &mut u64, detail: &mut u64)
-    ensures number_after { number.new ≡ cutNumber (cutChecked script.now (length places.old)) }
-    ensures detail_after { detail.new ≡ cutDetail script.now (cutChecked script.now (length places.old)) }
-    ensures places_after { places.new ≡ cutPlaces script.now places.old (cutChecked script.now (length places.old)) }
+    ensures number_after { number.new ≡ cut_number (cut_checked script.now (length places.old)) }
+    ensures detail_after { detail.new ≡ cut_detail script.now (cut_checked script.now (length places.old)) }
+    ensures places_after { places.new ≡ cut_places script.now places.old (cut_checked script.now (length places.old)) }
 {
     cut(script, places, number, detail);
 }

@@ -11,7 +11,7 @@ use lib.ListN.{length, drop, get_or, drop_of_length-le}
 use lib.Seq.{drop-cons, drop-drop}
 use lib.Dec.{ltb}
 use borrow.Author.Tests.{lt-ltb, le-ltb}
-use Rattle.characters.specs.Inner.Blocks.{asciiRun, allAscii, AsciiUpTo}
+use Rattle.characters.specs.Inner.Blocks.{ascii_run, all_ascii, AsciiUpTo}
 
 -- ---- four bytes and sixteen
 
@@ -22,10 +22,10 @@ regroup true true false d = refl
 regroup true false c d = refl
 regroup false b c d = refl
 
-pub four-are : (s : List ℕ) (i : ℕ) → i + 4 ≤ length s
-    → (ltb (get_or s i 0) 0x80 && ltb (get_or s (i + 1) 0) 0x80 && ltb (get_or s (i + 2) 0) 0x80 && ltb (get_or s (i + 3) 0) 0x80) ≡ allAscii 4 (drop i s)
-unfolding allAscii
-four-are s i h =
+pub four_are : (s : List ℕ) (i : ℕ) → i + 4 ≤ length s
+    → (ltb (get_or s i 0) 0x80 && ltb (get_or s (i + 1) 0) 0x80 && ltb (get_or s (i + 2) 0) 0x80 && ltb (get_or s (i + 3) 0) 0x80) ≡ all_ascii 4 (drop i s)
+unfolding all_ascii
+four_are s i h =
     let h₀ : i < length s = omega arith in
     let h₁ : suc i < length s = omega arith in
     let h₂ : suc (suc i) < length s = omega arith in
@@ -33,58 +33,58 @@ four-are s i h =
     rw (add-one i, add-two i, add-three i, drop-cons s i 0 h₀, drop-cons s (suc i) 0 h₁, drop-cons s (suc (suc i)) 0 h₂, drop-cons s (suc (suc (suc i))) 0 h₃)
     (regroup (ltb (get_or s i 0) 0x80) (ltb (get_or s (suc i) 0) 0x80) (ltb (get_or s (suc (suc i)) 0) 0x80) (ltb (get_or s (suc (suc (suc i))) 0) 0x80))
 
-all-add : (m n : ℕ) (s : List ℕ) → allAscii (m + n) s ≡ (allAscii m s && allAscii n (drop m s))
-unfolding allAscii
-all-add zero n s = rw (zero-add n)
-all-add (suc m) n [] = rw (suc-add m n)
-all-add (suc m) n (b ∷ s) = rw (suc-add m n, all-add m n s) (sym (and_assoc (ltb b 0x80) (allAscii m s) (allAscii n (drop m s))))
+all_add : (m n : ℕ) (s : List ℕ) → all_ascii (m + n) s ≡ (all_ascii m s && all_ascii n (drop m s))
+unfolding all_ascii
+all_add zero n s = rw (zero-add n)
+all_add (suc m) n [] = rw (suc-add m n)
+all_add (suc m) n (b ∷ s) = rw (suc-add m n, all_add m n s) (sym (and_assoc (ltb b 0x80) (all_ascii m s) (all_ascii n (drop m s))))
 
-pub sixteen-are : (s : List ℕ) (i : ℕ) (a b c d : Bool)
-    → a ≡ allAscii 4 (drop i s) → b ≡ allAscii 4 (drop (i + 4) s) → c ≡ allAscii 4 (drop (i + 8) s) → d ≡ allAscii 4 (drop (i + 12) s)
-    → (a && b && c && d) ≡ allAscii 16 (drop i s)
-sixteen-are s i a b c d ea eb ec ed =
+pub sixteen_are : (s : List ℕ) (i : ℕ) (a b c d : Bool)
+    → a ≡ all_ascii 4 (drop i s) → b ≡ all_ascii 4 (drop (i + 4) s) → c ≡ all_ascii 4 (drop (i + 8) s) → d ≡ all_ascii 4 (drop (i + 12) s)
+    → (a && b && c && d) ≡ all_ascii 16 (drop i s)
+sixteen_are s i a b c d ea eb ec ed =
     rw (ea, eb, ec, ed)
     (sym
-    (all-add 4 12 (drop i s)
-    ∙ rw (all-add 4 8 (drop 4 (drop i s)), all-add 4 4 (drop 4 (drop 4 (drop i s))), drop-drop 4 i s, drop-drop 4 (i + 4) s, drop-drop 4 (i + 4 + 4) s, add_assoc i 4 4, add_assoc i 8 4)
-    (right (allAscii 4 (drop i s)) (allAscii 4 (drop (i + 4) s)) (allAscii 4 (drop (i + 8) s)) (allAscii 4 (drop (i + 12) s)))))
+    (all_add 4 12 (drop i s)
+    ∙ rw (all_add 4 8 (drop 4 (drop i s)), all_add 4 4 (drop 4 (drop 4 (drop i s))), drop-drop 4 i s, drop-drop 4 (i + 4) s, drop-drop 4 (i + 4 + 4) s, add_assoc i 4 4, add_assoc i 8 4)
+    (right (all_ascii 4 (drop i s)) (all_ascii 4 (drop (i + 4) s)) (all_ascii 4 (drop (i + 8) s)) (all_ascii 4 (drop (i + 12) s)))))
   where
     right : (a b c d : Bool) → (a && (b && (c && d))) ≡ (a && b && c && d)
     right a b c d = sym (and_assoc (a && b) c d ∙ and_assoc a b (c && d))
 
 -- ---- the run
 
-all-run : (n : ℕ) (s : List ℕ) → allAscii n s ≡ true → asciiRun s ≡ n + asciiRun (drop n s)
-unfolding allAscii asciiRun
-all-run zero s e = sym (zero-add (asciiRun s))
-all-run (suc n) [] e = absurd (false≢true e)
-all-run (suc n) (b ∷ s) e =
-    let both = (and-eq-true_iff (ltb b 0x80) (allAscii n s)).0 e in
-    rw both.0 (ap suc (all-run n s both.1) ∙ sym (suc-add n (asciiRun (drop n s))))
+all_run : (n : ℕ) (s : List ℕ) → all_ascii n s ≡ true → ascii_run s ≡ n + ascii_run (drop n s)
+unfolding all_ascii ascii_run
+all_run zero s e = sym (zero-add (ascii_run s))
+all_run (suc n) [] e = absurd (false≢true e)
+all_run (suc n) (b ∷ s) e =
+    let both = (and-eq-true_iff (ltb b 0x80) (all_ascii n s)).0 e in
+    rw both.0 (ap suc (all_run n s both.1) ∙ sym (suc-add n (ascii_run (drop n s))))
 
-pub ascii-start : (s : List ℕ) → AsciiUpTo s 0
-ascii-start s = record { inside = zero-le; same = sym (zero-add (asciiRun s)) }
+pub ascii_start : (s : List ℕ) → AsciiUpTo s 0
+ascii_start s = record { inside = zero-le; same = sym (zero-add (ascii_run s)) }
 
 module _ (s : List ℕ) (i : ℕ) (at : AsciiUpTo s i) where
-  pub ascii-block : (r : Bool) → i + 16 ≤ length s → r ≡ allAscii 16 (drop i s) → r ≡ true → AsciiUpTo s (i + 16)
-  ascii-block r h c t =
+  pub ascii_block : (r : Bool) → i + 16 ≤ length s → r ≡ all_ascii 16 (drop i s) → r ≡ true → AsciiUpTo s (i + 16)
+  ascii_block r h c t =
       record {
         inside = h;
-        same = at.same ∙ rw (all-run 16 (drop i s) (sym c ∙ t), drop-drop 16 i s) (sym (add_assoc i 16 (asciiRun (drop (i + 16) s))));
+        same = at.same ∙ rw (all_run 16 (drop i s) (sym c ∙ t), drop-drop 16 i s) (sym (add_assoc i 16 (ascii_run (drop (i + 16) s))));
       }
 
-  pub ascii-one : i < length s → get_or s i 0 < 0x80 → AsciiUpTo s (i + 1)
-  unfolding asciiRun
-  ascii-one h t =
+  pub ascii_one : i < length s → get_or s i 0 < 0x80 → AsciiUpTo s (i + 1)
+  unfolding ascii_run
+  ascii_one h t =
       record {
         inside = omega arith;
-        same = at.same ∙ rw (drop-cons s i 0 h, lt-ltb (get_or s i 0) 0x80 t, add-one i) (add-suc i (asciiRun (drop (suc i) s)) ∙ sym (suc-add i (asciiRun (drop (suc i) s))));
+        same = at.same ∙ rw (drop-cons s i 0 h, lt-ltb (get_or s i 0) 0x80 t, add-one i) (add-suc i (ascii_run (drop (suc i) s)) ∙ sym (suc-add i (ascii_run (drop (suc i) s))));
       }
 
-  pub ascii-stop : i < length s → 0x80 ≤ get_or s i 0 → i ≡ asciiRun s
-  unfolding asciiRun
-  ascii-stop h t = sym (at.same ∙ rw (drop-cons s i 0 h, le-ltb (get_or s i 0) 0x80 t) (add-zero i))
+  pub ascii_stop : i < length s → 0x80 ≤ get_or s i 0 → i ≡ ascii_run s
+  unfolding ascii_run
+  ascii_stop h t = sym (at.same ∙ rw (drop-cons s i 0 h, le-ltb (get_or s i 0) 0x80 t) (add-zero i))
 
-  pub ascii-end : length s ≤ i → i ≡ asciiRun s
-  unfolding asciiRun
-  ascii-end h = sym (at.same ∙ rw (drop_of_length-le s h) (add-zero i))
+  pub ascii_end : length s ≤ i → i ≡ ascii_run s
+  unfolding ascii_run
+  ascii_end h = sym (at.same ∙ rw (drop_of_length-le s h) (add-zero i))

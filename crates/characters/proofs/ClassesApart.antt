@@ -7,133 +7,133 @@ use mathlib.Core.List.{List, [], ◌∷◌}
 use mathlib.Core.Bool.{Bool, true, false, ◌&&◌, ◌||◌, false≢true, and-eq-true_iff}
 use lib.Dec.{ltb, eqb}
 use borrow.Author.Tests.{ltb-true, ne_eqb}
-use Rattle.characters.specs.Ranges.{within, inRanges}
-use Rattle.characters.specs.WhiteSpace.{whiteSpace}
+use Rattle.characters.specs.Ranges.{within, in_ranges}
+use Rattle.characters.specs.WhiteSpace.{white_space}
 use Rattle.characters.specs.Alphabetic.{alphabetic}
 use Rattle.characters.specs.Numeric.{numeric}
 use Rattle.characters.specs.Mark.{mark}
 use Rattle.characters.specs.Connector.{connector}
-use Rattle.characters.specs.Classes.{isWhitespace, isAlphabetic, isNumeric, isMark, isPunctuationConnector, isAlphanumeric, isWordCharacter, isPlaceholderNameCharacter}
-use Rattle.characters.specs.Character.{codePoint}
-use Rattle.characters.proofs.Within.{within-low, within-high, within-is, below-not, above-not}
+use Rattle.characters.specs.Classes.{is_whitespace, is_alphabetic, is_numeric, is_mark, is_punctuation_connector, is_alphanumeric, is_word_character, is_placeholder_name_character}
+use Rattle.characters.specs.Character.{code_point}
+use Rattle.characters.proofs.Within.{within_low, within_high, within_is, below_not, above_not}
 
 -- ---- ranges apart from ranges
 
-abbrev pub apartFrom : ℕ × ℕ → List (ℕ × ℕ) → Bool
-apartFrom range [] = true
-apartFrom range (other ∷ others) = (ltb range.1 other.0 || ltb other.1 range.0) && apartFrom range others
+abbrev pub apart_from : ℕ × ℕ → List (ℕ × ℕ) → Bool
+apart_from range [] = true
+apart_from range (other ∷ others) = (ltb range.1 other.0 || ltb other.1 range.0) && apart_from range others
 
 abbrev apart : List (ℕ × ℕ) → List (ℕ × ℕ) → Bool
 apart [] others = true
-apart (range ∷ ranges) others = apartFrom range others && apart ranges others
+apart (range ∷ ranges) others = apart_from range others && apart ranges others
 
-pub outside : (range : ℕ × ℕ) (others : List (ℕ × ℕ)) (c : ℕ) → apartFrom range others ≡ true → within range.0 range.1 c ≡ true → inRanges others c ≡ false
-unfolding inRanges
+pub outside : (range : ℕ × ℕ) (others : List (ℕ × ℕ)) (c : ℕ) → apart_from range others ≡ true → within range.0 range.1 c ≡ true → in_ranges others c ≡ false
+unfolding in_ranges
 outside range [] c a e = refl
 outside range (other ∷ others) c a e =
-    let a₂ = (and-eq-true_iff (ltb range.1 other.0 || ltb other.1 range.0) (apartFrom range others)).0 a in
+    let a₂ = (and-eq-true_iff (ltb range.1 other.0 || ltb other.1 range.0) (apart_from range others)).0 a in
     rw (outside range others c a₂.1 e, go (ltb range.1 other.0) (ltb other.1 range.0) refl refl a₂.0)
   where
     low : range.0 ≤ c
-    low = within-low range.0 range.1 c e
+    low = within_low range.0 range.1 c e
 
     high : c ≤ range.1
-    high = within-high range.0 range.1 c e
+    high = within_high range.0 range.1 c e
 
     go : (t u : Bool) → ltb range.1 other.0 ≡ t → ltb other.1 range.0 ≡ u → (t || u) ≡ true → within other.0 other.1 c ≡ false
-    go true u q r o = below-not other.0 other.1 c (let k = ltb-true range.1 other.0 q in omega (arith, high))
-    go false true q r o = above-not other.0 other.1 c (let k = ltb-true other.1 range.0 r in omega (arith, low))
+    go true u q r o = below_not other.0 other.1 c (let k = ltb-true range.1 other.0 q in omega (arith, high))
+    go false true q r o = above_not other.0 other.1 c (let k = ltb-true other.1 range.0 r in omega (arith, low))
     go false false q r o = absurd (false≢true o)
 
-all-outside : (ranges others : List (ℕ × ℕ)) (c : ℕ) → apart ranges others ≡ true → inRanges ranges c ≡ true → inRanges others c ≡ false
-unfolding inRanges
-all-outside [] others c a e = absurd (false≢true e)
-all-outside (range ∷ ranges) others c a e =
-    let a₂ = (and-eq-true_iff (apartFrom range others) (apart ranges others)).0 a in
-    go (within range.0 range.1 c) refl a₂.0 (all-outside ranges others c a₂.1)
+all_outside : (ranges others : List (ℕ × ℕ)) (c : ℕ) → apart ranges others ≡ true → in_ranges ranges c ≡ true → in_ranges others c ≡ false
+unfolding in_ranges
+all_outside [] others c a e = absurd (false≢true e)
+all_outside (range ∷ ranges) others c a e =
+    let a₂ = (and-eq-true_iff (apart_from range others) (apart ranges others)).0 a in
+    go (within range.0 range.1 c) refl a₂.0 (all_outside ranges others c a₂.1)
   where
-    go : (t : Bool) → within range.0 range.1 c ≡ t → apartFrom range others ≡ true → (inRanges ranges c ≡ true → inRanges others c ≡ false) → inRanges others c ≡ false
+    go : (t : Bool) → within range.0 range.1 c ≡ t → apart_from range others ≡ true → (in_ranges ranges c ≡ true → in_ranges others c ≡ false) → in_ranges others c ≡ false
     go true q p rest = outside range others c p q
     go false q p rest = rest (rw q at e)
 
 -- ---- tests that the checker computes over the tables
 
-alphabetic-apart : apart whiteSpace alphabetic ≡ true
-unfolding whiteSpace alphabetic
-alphabetic-apart = refl
+alphabetic_apart : apart white_space alphabetic ≡ true
+unfolding white_space alphabetic
+alphabetic_apart = refl
 
-numeric-apart : apart whiteSpace numeric ≡ true
-unfolding whiteSpace numeric
-numeric-apart = refl
+numeric_apart : apart white_space numeric ≡ true
+unfolding white_space numeric
+numeric_apart = refl
 
-mark-apart : apart whiteSpace mark ≡ true
-unfolding whiteSpace mark
-mark-apart = refl
+mark_apart : apart white_space mark ≡ true
+unfolding white_space mark
+mark_apart = refl
 
-connector-apart : apart whiteSpace connector ≡ true
-unfolding whiteSpace connector
-connector-apart = refl
+connector_apart : apart white_space connector ≡ true
+unfolding white_space connector
+connector_apart = refl
 
-visible-apart : apartFrom (0x21, 0x7F) whiteSpace ≡ true
-unfolding whiteSpace
-visible-apart = refl
+visible_apart : apart_from (0x21, 0x7F) white_space ≡ true
+unfolding white_space
+visible_apart = refl
 
 -- ---- no whitespace is a word character, one of a placeholder's name, or visible ASCII
 
 -- the ASCII characters behind the space, with U+007F, which is no whitespace either
-pub visible-not-white : (c : ℕ) → 0x21 ≤ c → c ≤ 0x7F → isWhitespace c ≡ false
-unfolding isWhitespace
-visible-not-white c h l = outside (0x21, 0x7F) whiteSpace c visible-apart (within-is 0x21 0x7F c h l)
+pub visible_not_white : (c : ℕ) → 0x21 ≤ c → c ≤ 0x7F → is_whitespace c ≡ false
+unfolding is_whitespace
+visible_not_white c h l = outside (0x21, 0x7F) white_space c visible_apart (within_is 0x21 0x7F c h l)
 
-module _ (c : ℕ) (e : isWhitespace c ≡ true) where
-  no-alphanumeric : isAlphanumeric c ≡ false
-  unfolding isWhitespace isAlphanumeric isAlphabetic isNumeric
-  no-alphanumeric = rw (all-outside whiteSpace alphabetic c alphabetic-apart e, all-outside whiteSpace numeric c numeric-apart e)
+module _ (c : ℕ) (e : is_whitespace c ≡ true) where
+  no_alphanumeric : is_alphanumeric c ≡ false
+  unfolding is_whitespace is_alphanumeric is_alphabetic is_numeric
+  no_alphanumeric = rw (all_outside white_space alphabetic c alphabetic_apart e, all_outside white_space numeric c numeric_apart e)
 
-  pub white-no-word : isWordCharacter c ≡ false
-  unfolding isWhitespace isWordCharacter isMark isPunctuationConnector
-  white-no-word = rw (no-alphanumeric, all-outside whiteSpace mark c mark-apart e, all-outside whiteSpace connector c connector-apart e)
+  pub white_no_word : is_word_character c ≡ false
+  unfolding is_whitespace is_word_character is_mark is_punctuation_connector
+  white_no_word = rw (no_alphanumeric, all_outside white_space mark c mark_apart e, all_outside white_space connector c connector_apart e)
 
-  no-sign : (n : ℕ) → isWhitespace n ≡ false → eqb c n ≡ false
-  no-sign n f = ne_eqb c n (λ q. false≢true (sym f ∙ (rw q at e)))
+  no_sign : (n : ℕ) → is_whitespace n ≡ false → eqb c n ≡ false
+  no_sign n f = ne_eqb c n (λ q. false≢true (sym f ∙ (rw q at e)))
 
-  pub white-no-name : isPlaceholderNameCharacter c ≡ false
-  unfolding isPlaceholderNameCharacter
-  white-no-name =
-      rw (no-alphanumeric, no-sign 0x2E (visible-not-white 0x2E (omega arith) (omega arith)), no-sign 0x5F (visible-not-white 0x5F (omega arith) (omega arith)), no-sign 0x24 (visible-not-white 0x24 (omega arith) (omega arith)))
+  pub white_no_name : is_placeholder_name_character c ≡ false
+  unfolding is_placeholder_name_character
+  white_no_name =
+      rw (no_alphanumeric, no_sign 0x2E (visible_not_white 0x2E (omega arith) (omega arith)), no_sign 0x5F (visible_not_white 0x5F (omega arith) (omega arith)), no_sign 0x24 (visible_not_white 0x24 (omega arith) (omega arith)))
 
-pub space-white : isWhitespace 0x20 ≡ true
-unfolding isWhitespace inRanges within whiteSpace
-space-white = refl
+pub space_white : is_whitespace 0x20 ≡ true
+unfolding is_whitespace in_ranges within white_space
+space_white = refl
 
 -- ---- U+0000, which stands for the end of a text, is in no class
 
-pub zero-not-white : isWhitespace 0 ≡ false
-unfolding isWhitespace inRanges within whiteSpace
-zero-not-white = refl
+pub zero_not_white : is_whitespace 0 ≡ false
+unfolding is_whitespace in_ranges within white_space
+zero_not_white = refl
 
-pub zero-no-word : isWordCharacter 0 ≡ false
-unfolding isWordCharacter isAlphanumeric isAlphabetic isNumeric isMark isPunctuationConnector inRanges within alphabetic numeric mark connector
-zero-no-word = refl
+pub zero_no_word : is_word_character 0 ≡ false
+unfolding is_word_character is_alphanumeric is_alphabetic is_numeric is_mark is_punctuation_connector in_ranges within alphabetic numeric mark connector
+zero_no_word = refl
 
-pub zero-no-name : isPlaceholderNameCharacter 0 ≡ false
-unfolding isPlaceholderNameCharacter isAlphanumeric isAlphabetic isNumeric inRanges within alphabetic numeric
-zero-no-name = refl
+pub zero_no_name : is_placeholder_name_character 0 ≡ false
+unfolding is_placeholder_name_character is_alphanumeric is_alphabetic is_numeric in_ranges within alphabetic numeric
+zero_no_name = refl
 
-pub end-not-white : isWhitespace (codePoint []) ≡ false
-unfolding codePoint
-end-not-white = zero-not-white
+pub end_not_white : is_whitespace (code_point []) ≡ false
+unfolding code_point
+end_not_white = zero_not_white
 
-pub end-no-word : isWordCharacter (codePoint []) ≡ false
-unfolding codePoint
-end-no-word = zero-no-word
+pub end_no_word : is_word_character (code_point []) ≡ false
+unfolding code_point
+end_no_word = zero_no_word
 
 -- ---- ASCII letters are word characters
 
-pub capital-word : (c : ℕ) → within 0x41 0x5A c ≡ true → isWordCharacter c ≡ true
-unfolding isWordCharacter isAlphanumeric isAlphabetic inRanges alphabetic
-capital-word c e = rw e
+pub capital_word : (c : ℕ) → within 0x41 0x5A c ≡ true → is_word_character c ≡ true
+unfolding is_word_character is_alphanumeric is_alphabetic in_ranges alphabetic
+capital_word c e = rw e
 
-pub small-word : (c : ℕ) → within 0x61 0x7A c ≡ true → isWordCharacter c ≡ true
-unfolding isWordCharacter isAlphanumeric isAlphabetic inRanges alphabetic
-small-word c e = rw (above-not 0x41 0x5A c (let l = within-low 0x61 0x7A c e in omega arith), e)
+pub small_word : (c : ℕ) → within 0x61 0x7A c ≡ true → is_word_character c ≡ true
+unfolding is_word_character is_alphanumeric is_alphabetic in_ranges alphabetic
+small_word c e = rw (above_not 0x41 0x5A c (let l = within_low 0x61 0x7A c e in omega arith), e)

@@ -14,16 +14,16 @@ use mir.Syntax.{w8, w32}
 use mir.Val.{Fits}
 use borrow.Author.Tests.{eq-eqb, ne_eqb, ltb-true}
 use Rattle.characters.specs.declared.Character.{Character}
-use Rattle.characters.specs.Character.{isContinuation, continuations, continued, firstBits, withBits, codePoint, characterLength, character}
+use Rattle.characters.specs.Character.{is_continuation, continuations, continued, first_bits, with_bits, code_point, character_length, character}
 
-with-bits-last : (value : ℕ) (l : List ℕ) (b : ℕ) → withBits value (l ++ (b ∷ [])) ≡ withBits value l * 64 + b % 64
-unfolding withBits
-with-bits-last value [] b = refl
-with-bits-last value (a ∷ l) b = with-bits-last (value * 64 + a % 64) l b
+with_bits_last : (value : ℕ) (l : List ℕ) (b : ℕ) → with_bits value (l ++ (b ∷ [])) ≡ with_bits value l * 64 + b % 64
+unfolding with_bits
+with_bits_last value [] b = refl
+with_bits_last value (a ∷ l) b = with_bits_last (value * 64 + a % 64) l b
 
-first-small : (b : ℕ) → b < 256 → firstBits b < 128
-unfolding firstBits
-first-small b h = go (ltb b 0x80) (ltb b 0xC0) (ltb b 0xE0) (ltb b 0xF0) refl refl refl refl
+first_small : (b : ℕ) → b < 256 → first_bits b < 128
+unfolding first_bits
+first_small b h = go (ltb b 0x80) (ltb b 0xC0) (ltb b 0xE0) (ltb b 0xF0) refl refl refl refl
   where
     go : (t u v w : Bool) → ltb b 0x80 ≡ t → ltb b 0xC0 ≡ u → ltb b 0xE0 ≡ v → ltb b 0xF0 ≡ w
         → cond (ltb b 0x80) b (cond (ltb b 0xC0) 0 (cond (ltb b 0xE0) (b - 0xC0) (cond (ltb b 0xF0) (b - 0xE0) (b - 0xF0)))) < 128
@@ -33,9 +33,9 @@ first-small b h = go (ltb b 0x80) (ltb b 0xC0) (ltb b 0xE0) (ltb b 0xF0) refl re
     go false false false true e f g i = rw (e, f, g, i) (omega arith)
     go false false false false e f g i = rw (e, f, g, i) (omega arith)
 
-at-most-three : (b : ℕ) → continuations b ≤ 3
+at_most_three : (b : ℕ) → continuations b ≤ 3
 unfolding continuations
-at-most-three b = go (ltb b 0xC0) (ltb b 0xE0) (ltb b 0xF0)
+at_most_three b = go (ltb b 0xC0) (ltb b 0xE0) (ltb b 0xF0)
   where
     go : (t u v : Bool) → cond t 0 (cond u 1 (cond v 2 3)) ≤ 3
     go true u v = omega arith
@@ -46,26 +46,26 @@ at-most-three b = go (ltb b 0xC0) (ltb b 0xE0) (ltb b 0xF0)
 short : (s : List ℕ) (i : ℕ) → i + 1 < length s → i < length (drop 1 s)
 short s i h = rw length-drop (omega arith)
 
-character-is : (s : List ℕ) (n : ℕ) (v : ℕ) → codePoint s ≡ v → characterLength s ≡ n → ◌≡◌ {A = Character} (record { code_point = v; len = n }) (character s)
+character_is : (s : List ℕ) (n : ℕ) (v : ℕ) → code_point s ≡ v → character_length s ≡ n → ◌≡◌ {A = Character} (record { code_point = v; len = n }) (character s)
 unfolding character
-character-is s n v p q = rw (p, q)
+character_is s n v p q = rw (p, q)
 
 -- fewer continuation bytes follow than the first byte calls for
 broken : (s : List ℕ) (wanted i : ℕ) → wanted ≡ continuations (get_or s 0 0) → 0 < length s → continued wanted (drop 1 s) ≡ i → i < wanted → ◌≡◌ {A = Character} (record { code_point = 0; len = i + 1 }) (character s)
-unfolding codePoint characterLength
+unfolding code_point character_length
 broken [] wanted i e o g h = absurd (not-suc-le-zero o)
 broken (b ∷ t) wanted i e o g h =
-    character-is (b ∷ t) (i + 1) 0
+    character_is (b ∷ t) (i + 1) 0
     (rw (← e, g, ne_eqb i wanted (λ q. omega arith)))
     (rw (← e, g, add-one i))
 
 -- all of them follow
 whole : (s : List ℕ) (wanted value : ℕ) → wanted ≡ continuations (get_or s 0 0) → 0 < length s → continued wanted (drop 1 s) ≡ wanted
-    → value ≡ withBits (firstBits (get_or s 0 0)) (take wanted (drop 1 s)) → ◌≡◌ {A = Character} (record { code_point = value; len = wanted + 1 }) (character s)
-unfolding codePoint characterLength
+    → value ≡ with_bits (first_bits (get_or s 0 0)) (take wanted (drop 1 s)) → ◌≡◌ {A = Character} (record { code_point = value; len = wanted + 1 }) (character s)
+unfolding code_point character_length
 whole [] wanted value e o g v = absurd (not-suc-le-zero o)
 whole (b ∷ t) wanted value e o g v =
-    character-is (b ∷ t) (wanted + 1) value
+    character_is (b ∷ t) (wanted + 1) value
     (rw (← e, g, eq-eqb wanted wanted refl) (sym v))
     (rw (← e, g, add-one wanted))
 
@@ -78,81 +78,81 @@ pub record DecodeAt (s : List ℕ) (wanted value i : ℕ) : Type 0 where
   pub there : i < length s
   pub small : value < 128 * 64 ^ i
   pub got : continued wanted (drop 1 s) ≡ i + continued (wanted - i) (drop (suc i) s)
-  pub value-is : value ≡ withBits (firstBits (get_or s 0 0)) (take i (drop 1 s))
+  pub value_is : value ≡ with_bits (first_bits (get_or s 0 0)) (take i (drop 1 s))
 
 module _ (s : List ℕ) (wanted : ℕ) where
-  pub decode-start : (value : ℕ) → ((k : ℕ) → Fits w8 (get_or s k 0)) → 0 < length s → wanted ≡ continuations (get_or s 0 0) → value ≡ firstBits (get_or s 0 0) → DecodeAt s wanted value 0
-  unfolding withBits
-  decode-start value f h e v =
+  pub decode_start : (value : ℕ) → ((k : ℕ) → Fits w8 (get_or s k 0)) → 0 < length s → wanted ≡ continuations (get_or s 0 0) → value ≡ first_bits (get_or s 0 0) → DecodeAt s wanted value 0
+  unfolding with_bits
+  decode_start value f h e v =
       record {
         calls = e;
         inside = zero-le;
         there = h;
-        small = rw v (let b = first-small (get_or s 0 0) (f 0).fits in omega arith);
+        small = rw v (let b = first_small (get_or s 0 0) (f 0).fits in omega arith);
         got = let w : wanted - 0 ≡ wanted = omega arith in rw w (sym (zero-add (continued wanted (drop 1 s))));
-        value-is = v;
+        value_is = v;
       }
 
   module _ (value i : ℕ) (at : DecodeAt s wanted value i) (h : i < wanted) where
     few : 64 ^ i ≤ 4096
     few =
-        let m = at-most-three (get_or s 0 0) in
+        let m = at_most_three (get_or s 0 0) in
         let c = at.calls in
         pow-le-pow_right {n = 64} (omega arith) {i = i} {j = 2} (omega arith)
 
-    pub decode-shift : Fits w32 (value * 64)
-    decode-shift = record { fits = omega (arith, few, at.small) }
+    pub decode_shift : Fits w32 (value * 64)
+    decode_shift = record { fits = omega (arith, few, at.small) }
 
-    pub decode-add : (x b : ℕ) → x ≡ b % 64 → Fits w32 (value * 64 + x)
-    decode-add x b q = record { fits = omega (arith, few, at.small) }
+    pub decode_add : (x b : ℕ) → x ≡ b % 64 → Fits w32 (value * 64 + x)
+    decode_add x b q = record { fits = omega (arith, few, at.small) }
 
-    more-wanted : wanted - i ≡ suc (wanted - (i + 1))
-    more-wanted = omega arith
+    more_wanted : wanted - i ≡ suc (wanted - (i + 1))
+    more_wanted = omega arith
 
     -- the next byte is there and continues the character
     module _ (l : i + 1 < length s) where
       next : drop (suc i) s ≡ get_or s (i + 1) 0 ∷ drop (suc (i + 1)) s
       next = rw (add-one i) (drop-cons s (suc i) 0 (rw (add-one i) at l))
 
-      module _ (r : Bool) (e : r ≡ isContinuation (get_or s (i + 1) 0)) where
-        pub decode-more : (x : ℕ) → x ≡ get_or s (i + 1) 0 % 64 → r ≡ true → DecodeAt s wanted (value * 64 + x) (i + 1)
+      module _ (r : Bool) (e : r ≡ is_continuation (get_or s (i + 1) 0)) where
+        pub decode_more : (x : ℕ) → x ≡ get_or s (i + 1) 0 % 64 → r ≡ true → DecodeAt s wanted (value * 64 + x) (i + 1)
         unfolding continued
-        decode-more x q t =
+        decode_more x q t =
             record {
               calls = at.calls;
               inside = omega arith;
               there = l;
               small = rw (add-one i, pow-suc 64 i, q) (let p = at.small in omega arith);
-              got = at.got ∙ rw (more-wanted, next, ← e, t) (add-suc i _ ∙ sym (rw (add-one i) (suc-add i _)));
-              value-is = rw (add-one i, take-suc (drop 1 s) i 0 (short s i l), with-bits-last, get_or-drop 1 s i 0, q, at.value-is, add_comm 1 i, add-one i);
+              got = at.got ∙ rw (more_wanted, next, ← e, t) (add-suc i _ ∙ sym (rw (add-one i) (suc-add i _)));
+              value_is = rw (add-one i, take-suc (drop 1 s) i 0 (short s i l), with_bits_last, get_or-drop 1 s i 0, q, at.value_is, add_comm 1 i, add-one i);
             }
 
-        pub decode-stop : r ≡ false → ◌≡◌ {A = Character} (record { code_point = 0; len = i + 1 }) (character s)
+        pub decode_stop : r ≡ false → ◌≡◌ {A = Character} (record { code_point = 0; len = i + 1 }) (character s)
         unfolding continued
-        decode-stop t =
+        decode_stop t =
             broken s wanted i at.calls (le_trans (suc-le-suc zero-le) at.there)
-            (at.got ∙ rw (more-wanted, next, ← e, t) (add-zero i))
+            (at.got ∙ rw (more_wanted, next, ← e, t) (add-zero i))
             h
 
-    pub decode-cut : length s ≤ i + 1 → ◌≡◌ {A = Character} (record { code_point = 0; len = i + 1 }) (character s)
+    pub decode_cut : length s ≤ i + 1 → ◌≡◌ {A = Character} (record { code_point = 0; len = i + 1 }) (character s)
     unfolding continued
-    decode-cut l =
+    decode_cut l =
         let none : drop (suc i) s ≡ [] = drop_of_length-le s (rw add-one at l) in
-        broken s wanted i at.calls (le_trans (suc-le-suc zero-le) at.there) (at.got ∙ rw (more-wanted, none) (add-zero i)) h
+        broken s wanted i at.calls (le_trans (suc-le-suc zero-le) at.there) (at.got ∙ rw (more_wanted, none) (add-zero i)) h
 
-  pub decode-end : (value i : ℕ) → DecodeAt s wanted value i → wanted ≤ i → ◌≡◌ {A = Character} (record { code_point = value; len = i + 1 }) (character s)
+  pub decode_end : (value i : ℕ) → DecodeAt s wanted value i → wanted ≤ i → ◌≡◌ {A = Character} (record { code_point = value; len = i + 1 }) (character s)
   unfolding continued
-  decode-end value i at h =
+  decode_end value i at h =
       let m = at.inside in
       let q : i ≡ wanted = omega arith in
       let none : wanted - i ≡ 0 = omega arith in
       rw q
-      (whole s wanted value at.calls (le_trans (suc-le-suc zero-le) at.there) (at.got ∙ rw none (rw (add-zero i) q)) (rw q at at.value-is))
+      (whole s wanted value at.calls (le_trans (suc-le-suc zero-le) at.there) (at.got ∙ rw none (rw (add-zero i) q)) (rw q at at.value_is))
 
-pub decode-none : (s : List ℕ) → length s ≡ 0 → ◌≡◌ {A = Character} (record { code_point = 0; len = 0 }) (character s)
-unfolding character codePoint characterLength
-decode-none [] h = refl
-decode-none (b ∷ s) h = absurd (let z : ⊥ = omega arith in z)
+pub decode_none : (s : List ℕ) → length s ≡ 0 → ◌≡◌ {A = Character} (record { code_point = 0; len = 0 }) (character s)
+unfolding character code_point character_length
+decode_none [] h = refl
+decode_none (b ∷ s) h = absurd (let z : ⊥ = omega arith in z)
 
-pub decode-past : (s : List ℕ) (at : ℕ) → length s ≤ at → ◌≡◌ {A = Character} (record { code_point = 0; len = 0 }) (character (drop at s))
-decode-past s at h = rw (drop_of_length-le s h) (decode-none [] refl)
+pub decode_past : (s : List ℕ) (at : ℕ) → length s ≤ at → ◌≡◌ {A = Character} (record { code_point = 0; len = 0 }) (character (drop at s))
+decode_past s at h = rw (drop_of_length-le s h) (decode_none [] refl)

@@ -14,145 +14,145 @@ use mir.Val.{Fits}
 use borrow.Author.Tests.{lt-ltb, le-ltb, le-leb, ltb-true}
 use Rattle.characters.specs.declared.IllFormed.TheVariants.{At, Nowhere}
 use Rattle.characters.specs.Ranges.{within}
-use Rattle.characters.specs.Inner.Blocks.{asciiRun}
-use Rattle.characters.specs.Utf8.{table-3-7, fitsRow, sequenceIn, sequenceLength, wellFormedFrom, firstIllFormed}
+use Rattle.characters.specs.Inner.Blocks.{ascii_run}
+use Rattle.characters.specs.Utf8.{table_3_7, fits_row, sequence_in, sequence_length, well_formed_from, first_ill_formed}
 use Rattle.characters.proofs.SequenceRows.{Rows}
-use Rattle.characters.proofs.Rests.{part-end}
+use Rattle.characters.proofs.Rests.{part_end}
 
 -- ---- the sequence lies inside
 
-starts-inside : (row : List (ℕ × ℕ)) (s : List ℕ) → fitsRow row s ≡ true → length row ≤ length s
-unfolding fitsRow
-starts-inside [] s e = zero-le
-starts-inside (range ∷ row) [] e = absurd (false≢true e)
-starts-inside (range ∷ row) (b ∷ s) e =
-    suc-le-suc (starts-inside row s ((and-eq-true_iff (within range.0 range.1 b) (fitsRow row s)).0 e).1)
+starts_inside : (row : List (ℕ × ℕ)) (s : List ℕ) → fits_row row s ≡ true → length row ≤ length s
+unfolding fits_row
+starts_inside [] s e = zero-le
+starts_inside (range ∷ row) [] e = absurd (false≢true e)
+starts_inside (range ∷ row) (b ∷ s) e =
+    suc-le-suc (starts_inside row s ((and-eq-true_iff (within range.0 range.1 b) (fits_row row s)).0 e).1)
 
-in-inside : (rows : Rows) (s : List ℕ) → sequenceIn rows s ≤ length s
-unfolding sequenceIn
-in-inside [] s = zero-le
-in-inside (row ∷ rows) s = go (fitsRow row s) refl (in-inside rows s)
+in_inside : (rows : Rows) (s : List ℕ) → sequence_in rows s ≤ length s
+unfolding sequence_in
+in_inside [] s = zero-le
+in_inside (row ∷ rows) s = go (fits_row row s) refl (in_inside rows s)
   where
-    go : (t : Bool) → fitsRow row s ≡ t → sequenceIn rows s ≤ length s → cond (fitsRow row s) (length row) (sequenceIn rows s) ≤ length s
-    go true e h = rw e (starts-inside row s e)
+    go : (t : Bool) → fits_row row s ≡ t → sequence_in rows s ≤ length s → cond (fits_row row s) (length row) (sequence_in rows s) ≤ length s
+    go true e h = rw e (starts_inside row s e)
     go false e h = rw e h
 
-pub sequence-inside : (s : List ℕ) → sequenceLength s ≤ length s
-unfolding sequenceLength
-sequence-inside s = in-inside table-3-7 s
+pub sequence_inside : (s : List ℕ) → sequence_length s ≤ length s
+unfolding sequence_length
+sequence_inside s = in_inside table_3_7 s
 
-pub run-inside : (s : List ℕ) → asciiRun s ≤ length s
-unfolding asciiRun
-run-inside [] = zero-le
-run-inside (b ∷ s) = go (ltb b 0x80) (run-inside s)
+pub run_inside : (s : List ℕ) → ascii_run s ≤ length s
+unfolding ascii_run
+run_inside [] = zero-le
+run_inside (b ∷ s) = go (ltb b 0x80) (run_inside s)
   where
-    go : (t : Bool) → asciiRun s ≤ length s → cond t (suc (asciiRun s)) 0 ≤ suc (length s)
+    go : (t : Bool) → ascii_run s ≤ length s → cond t (suc (ascii_run s)) 0 ≤ suc (length s)
     go true h = suc-le-suc h
     go false h = zero-le
 
 -- ---- a step
 
-pub pass : (n : ℕ) (s : List ℕ) → n ≤ length s → wellFormedFrom n s ≡ n + wellFormedFrom 0 (drop n s)
-unfolding wellFormedFrom
-pass zero s h = sym (zero-add (wellFormedFrom 0 s))
+pub pass : (n : ℕ) (s : List ℕ) → n ≤ length s → well_formed_from n s ≡ n + well_formed_from 0 (drop n s)
+unfolding well_formed_from
+pass zero s h = sym (zero-add (well_formed_from 0 s))
 pass (suc n) [] h = absurd (not-suc-le-zero h)
-pass (suc n) (b ∷ s) h = ap suc (pass n s (le_of_suc-le-suc h)) ∙ sym (suc-add n (wellFormedFrom 0 (drop n s)))
+pass (suc n) (b ∷ s) h = ap suc (pass n s (le_of_suc-le-suc h)) ∙ sym (suc-add n (well_formed_from 0 (drop n s)))
 
-pub step : (s : List ℕ) (n : ℕ) → sequenceLength s ≡ suc n → wellFormedFrom 0 s ≡ suc n + wellFormedFrom 0 (drop (suc n) s)
-unfolding wellFormedFrom
-step [] n e = absurd (let h = sequence-inside [] in let z : ⊥ = omega arith in z)
+pub step : (s : List ℕ) (n : ℕ) → sequence_length s ≡ suc n → well_formed_from 0 s ≡ suc n + well_formed_from 0 (drop (suc n) s)
+unfolding well_formed_from
+step [] n e = absurd (let h = sequence_inside [] in let z : ⊥ = omega arith in z)
 step (b ∷ s) n e =
-    let h = sequence-inside (b ∷ s) in
+    let h = sequence_inside (b ∷ s) in
     let k : n ≤ length s = omega arith in
-    rw (e, wellFormedFrom) (ap suc (pass n s k) ∙ sym (suc-add n (wellFormedFrom 0 (drop n s))))
+    rw (e, well_formed_from) (ap suc (pass n s k) ∙ sym (suc-add n (well_formed_from 0 (drop n s))))
 
-pub stop : (s : List ℕ) → sequenceLength s ≡ 0 → wellFormedFrom 0 s ≡ 0
-unfolding wellFormedFrom
+pub stop : (s : List ℕ) → sequence_length s ≡ 0 → well_formed_from 0 s ≡ 0
+unfolding well_formed_from
 stop [] e = refl
-stop (b ∷ s) e = rw (e, wellFormedFrom)
+stop (b ∷ s) e = rw (e, well_formed_from)
 
-pub ascii-sequence : (b : ℕ) (s : List ℕ) → b < 0x80 → sequenceLength (b ∷ s) ≡ 1
-unfolding sequenceLength sequenceIn table-3-7 fitsRow within
-ascii-sequence b s h = rw (le-leb 0x00 b zero-le, le-leb b 0x7F (omega arith))
+pub ascii_sequence : (b : ℕ) (s : List ℕ) → b < 0x80 → sequence_length (b ∷ s) ≡ 1
+unfolding sequence_length sequence_in table_3_7 fits_row within
+ascii_sequence b s h = rw (le-leb 0x00 b zero-le, le-leb b 0x7F (omega arith))
 
-pub ascii-pass : (s : List ℕ) → wellFormedFrom 0 s ≡ asciiRun s + wellFormedFrom 0 (drop (asciiRun s) s)
-unfolding asciiRun
-ascii-pass [] = sym (zero-add (wellFormedFrom 0 []))
-ascii-pass (b ∷ s) = go (ltb b 0x80) refl (ascii-pass s)
+pub ascii_pass : (s : List ℕ) → well_formed_from 0 s ≡ ascii_run s + well_formed_from 0 (drop (ascii_run s) s)
+unfolding ascii_run
+ascii_pass [] = sym (zero-add (well_formed_from 0 []))
+ascii_pass (b ∷ s) = go (ltb b 0x80) refl (ascii_pass s)
   where
-    go : (t : Bool) → ltb b 0x80 ≡ t → wellFormedFrom 0 s ≡ asciiRun s + wellFormedFrom 0 (drop (asciiRun s) s)
-        → wellFormedFrom 0 (b ∷ s) ≡ cond (ltb b 0x80) (suc (asciiRun s)) 0 + wellFormedFrom 0 (drop (cond (ltb b 0x80) (suc (asciiRun s)) 0) (b ∷ s))
+    go : (t : Bool) → ltb b 0x80 ≡ t → well_formed_from 0 s ≡ ascii_run s + well_formed_from 0 (drop (ascii_run s) s)
+        → well_formed_from 0 (b ∷ s) ≡ cond (ltb b 0x80) (suc (ascii_run s)) 0 + well_formed_from 0 (drop (cond (ltb b 0x80) (suc (ascii_run s)) 0) (b ∷ s))
     go true e ih =
         rw e
-        (step (b ∷ s) 0 (ascii-sequence b s (ltb-true b 0x80 e))
-        ∙ rw (suc-add 0 (wellFormedFrom 0 s), zero-add, ih) (sym (suc-add (asciiRun s) (wellFormedFrom 0 (drop (asciiRun s) s)))))
-    go false e ih = rw e (sym (zero-add (wellFormedFrom 0 (b ∷ s))))
+        (step (b ∷ s) 0 (ascii_sequence b s (ltb-true b 0x80 e))
+        ∙ rw (suc-add 0 (well_formed_from 0 s), zero-add, ih) (sym (suc-add (ascii_run s) (well_formed_from 0 (drop (ascii_run s) s)))))
+    go false e ih = rw e (sym (zero-add (well_formed_from 0 (b ∷ s))))
 
 -- ---- the loop
 
 -- the first `at` bytes are well-formed sequences
 pub record ValidAt (s : List ℕ) (at : ℕ) : Type 0 where
   pub inside : at ≤ length s
-  pub same : wellFormedFrom 0 s ≡ at + wellFormedFrom 0 (drop at s)
+  pub same : well_formed_from 0 s ≡ at + well_formed_from 0 (drop at s)
 
-pub valid-start : (s : List ℕ) → ValidAt s 0
-valid-start s = record { inside = zero-le; same = sym (zero-add (wellFormedFrom 0 s)) }
+pub valid_start : (s : List ℕ) → ValidAt s 0
+valid_start s = record { inside = zero-le; same = sym (zero-add (well_formed_from 0 s)) }
 
-module _ (s : List ℕ) (at r : ℕ) (v : ValidAt s at) (e : r ≡ asciiRun (take (length s - at) (drop at s))) where
-  run-is : r ≡ asciiRun (drop at s)
-  run-is = rw (part-end s at) at e
+module _ (s : List ℕ) (at r : ℕ) (v : ValidAt s at) (e : r ≡ ascii_run (take (length s - at) (drop at s))) where
+  run_is : r ≡ ascii_run (drop at s)
+  run_is = rw (part_end s at) at e
 
-  ascii-inside : at + r ≤ length s
-  ascii-inside =
-      let h = run-inside (drop at s) in
+  ascii_inside : at + r ≤ length s
+  ascii_inside =
+      let h = run_inside (drop at s) in
       let l = length-drop at s in
       let i = v.inside in
-      omega (arith, run-is)
+      omega (arith, run_is)
 
-  pub ascii-fits : length s < 2 ^ 64 → Fits w64 (at + r)
-  ascii-fits f = record { fits = omega (arith, ascii-inside) }
+  pub ascii_fits : length s < 2 ^ 64 → Fits w64 (at + r)
+  ascii_fits f = record { fits = omega (arith, ascii_inside) }
 
-  pub valid-ascii : ValidAt s (at + r)
-  valid-ascii =
+  pub valid_ascii : ValidAt s (at + r)
+  valid_ascii =
       record {
-        inside = ascii-inside;
+        inside = ascii_inside;
         same = v.same
-            ∙ rw (ascii-pass (drop at s), ← run-is, drop-drop r at s) (sym (add_assoc at r (wellFormedFrom 0 (drop (at + r) s))));
+            ∙ rw (ascii_pass (drop at s), ← run_is, drop-drop r at s) (sym (add_assoc at r (well_formed_from 0 (drop (at + r) s))));
       }
 
-  module _ (n : ℕ) (h : at + r < length s) (d : n ≡ sequenceLength (take (length s - (at + r)) (drop (at + r) s))) where
-    length-is : n ≡ sequenceLength (drop (at + r) s)
-    length-is = rw (part-end s (at + r)) at d
+  module _ (n : ℕ) (h : at + r < length s) (d : n ≡ sequence_length (take (length s - (at + r)) (drop (at + r) s))) where
+    length_is : n ≡ sequence_length (drop (at + r) s)
+    length_is = rw (part_end s (at + r)) at d
 
-    within-text : at + r + n ≤ length s
-    within-text =
-        let i = sequence-inside (drop (at + r) s) in
+    within_text : at + r + n ≤ length s
+    within_text =
+        let i = sequence_inside (drop (at + r) s) in
         let l = length-drop (at + r) s in
-        omega (arith, length-is)
+        omega (arith, length_is)
 
-    pub sequence-fits : length s < 2 ^ 64 → Fits w64 (at + r + n)
-    sequence-fits f = record { fits = omega (arith, within-text) }
+    pub sequence_fits : length s < 2 ^ 64 → Fits w64 (at + r + n)
+    sequence_fits f = record { fits = omega (arith, within_text) }
 
-    pub valid-sequence : (n ≡ 0 → ⊥) → ValidAt s (at + r + n)
-    valid-sequence z = go n refl
+    pub valid_sequence : (n ≡ 0 → ⊥) → ValidAt s (at + r + n)
+    valid_sequence z = go n refl
       where
         go : (m : ℕ) → n ≡ m → ValidAt s (at + r + n)
         go zero q = absurd (z q)
         go (suc m) q =
             record {
-              inside = within-text;
-              same = valid-ascii.same
-                  ∙ rw (step (drop (at + r) s) m (sym length-is ∙ q), drop-drop (suc m) (at + r) s, ← q) (sym (add_assoc (at + r) n (wellFormedFrom 0 (drop (at + r + n) s))));
+              inside = within_text;
+              same = valid_ascii.same
+                  ∙ rw (step (drop (at + r) s) m (sym length_is ∙ q), drop-drop (suc m) (at + r) s, ← q) (sym (add_assoc (at + r) n (well_formed_from 0 (drop (at + r + n) s))));
             }
 
-    pub valid-stop : n ≡ 0 → At (at + r) ≡ firstIllFormed s
-    unfolding firstIllFormed
-    valid-stop z =
-        let w : wellFormedFrom 0 s ≡ at + r = valid-ascii.same ∙ rw (stop (drop (at + r) s) (sym length-is ∙ z)) (add-zero (at + r)) in
+    pub valid_stop : n ≡ 0 → At (at + r) ≡ first_ill_formed s
+    unfolding first_ill_formed
+    valid_stop z =
+        let w : well_formed_from 0 s ≡ at + r = valid_ascii.same ∙ rw (stop (drop (at + r) s) (sym length_is ∙ z)) (add-zero (at + r)) in
         rw (w, lt-ltb (at + r) (length s) h)
 
-pub valid-end : (s : List ℕ) (at : ℕ) → ValidAt s at → length s ≤ at → Nowhere ≡ firstIllFormed s
-unfolding firstIllFormed
-valid-end s at v h =
-    let w : length s ≤ wellFormedFrom 0 s = rw v.same (le_trans h (omega arith)) in
-    rw (le-ltb (wellFormedFrom 0 s) (length s) w)
+pub valid_end : (s : List ℕ) (at : ℕ) → ValidAt s at → length s ≤ at → Nowhere ≡ first_ill_formed s
+unfolding first_ill_formed
+valid_end s at v h =
+    let w : length s ≤ well_formed_from 0 s = rw v.same (le_trans h (omega arith)) in
+    rw (le-ltb (well_formed_from 0 s) (length s) w)

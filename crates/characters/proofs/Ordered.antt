@@ -3,28 +3,28 @@
 use mathlib.Core.Path.{◌≡◌, refl}
 use mathlib.Core.Bool.{true}
 use Rattle.characters.specs.Ranges.{ordered}
-use Rattle.characters.specs.WhiteSpace.{whiteSpace}
+use Rattle.characters.specs.WhiteSpace.{white_space}
 use Rattle.characters.specs.Alphabetic.{alphabetic}
 use Rattle.characters.specs.Numeric.{numeric}
 use Rattle.characters.specs.Mark.{mark}
 use Rattle.characters.specs.Connector.{connector}
 
-pub white-space-ordered : ordered 0 whiteSpace ≡ true
-unfolding ordered whiteSpace
-white-space-ordered = refl
+pub white_space_ordered : ordered 0 white_space ≡ true
+unfolding ordered white_space
+white_space_ordered = refl
 
-pub alphabetic-ordered : ordered 0 alphabetic ≡ true
+pub alphabetic_ordered : ordered 0 alphabetic ≡ true
 unfolding ordered alphabetic
-alphabetic-ordered = refl
+alphabetic_ordered = refl
 
-pub numeric-ordered : ordered 0 numeric ≡ true
+pub numeric_ordered : ordered 0 numeric ≡ true
 unfolding ordered numeric
-numeric-ordered = refl
+numeric_ordered = refl
 
-pub mark-ordered : ordered 0 mark ≡ true
+pub mark_ordered : ordered 0 mark ≡ true
 unfolding ordered mark
-mark-ordered = refl
+mark_ordered = refl
 
-pub connector-ordered : ordered 0 connector ≡ true
+pub connector_ordered : ordered 0 connector ≡ true
 unfolding ordered connector
-connector-ordered = refl
+connector_ordered = refl

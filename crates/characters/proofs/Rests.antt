@@ -7,5 +7,5 @@ use mathlib.Core.List.{List}
 use lib.ListN.{length, drop, take, length-drop}
 use lib.Seq.{take_all}
 
-pub part-end : (s : List ℕ) (k : ℕ) → take (length s - k) (drop k s) ≡ drop k s
-part-end s k = take_all (length s - k) (drop k s) (rw length-drop (le_refl (length s - k)))
+pub part_end : (s : List ℕ) (k : ℕ) → take (length s - k) (drop k s) ≡ drop k s
+part_end s k = take_all (length s - k) (drop k s) (rw length-drop (le_refl (length s - k)))

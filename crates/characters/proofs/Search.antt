@@ -10,7 +10,7 @@ use mathlib.Core.Bool.{true, and-eq-true_iff}
 use lib.ListN.{length, get_or}
 use lib.Dec.{eqb, leb}
 use borrow.Author.Tests.{leb-true, le-leb, lt-leb, lt-ltb, le-ltb}
-use Rattle.characters.specs.Inner.Ends.{ascending, inEnds, EndsUpTo}
+use Rattle.characters.specs.Inner.Ends.{ascending, in_ends, EndsUpTo}
 
 pub ascends : (ends : List ℕ) → ascending ends ≡ true → (p q : ℕ) → p ≤ q → q < length ends → get_or ends p 0 ≤ get_or ends q 0
 unfolding ascending
@@ -29,8 +29,8 @@ ascends (a ∷ b ∷ ends) e (suc p) (suc q) h l =
 
 -- ---- the loop
 
-not-suc-le-self : {k n : ℕ} → n ≤ k → k < n → ⊥
-not-suc-le-self h l = omega arith
+not_suc_le_self : {k n : ℕ} → n ≤ k → k < n → ⊥
+not_suc_le_self h l = omega arith
 
 pub record SearchAt (ends : List ℕ) (c low high : ℕ) : Type 0 where
   pub order : low ≤ high
@@ -39,18 +39,18 @@ pub record SearchAt (ends : List ℕ) (c low high : ℕ) : Type 0 where
   pub above : ascending ends ≡ true → (k : ℕ) → high ≤ k → k < length ends → c < get_or ends k 0
 
 module _ (ends : List ℕ) (c : ℕ) where
-  pub search-start : SearchAt ends c 0 (length ends)
-  search-start =
+  pub search_start : SearchAt ends c 0 (length ends)
+  search_start =
       record {
         order = zero-le;
         inside = le_refl (length ends);
         below = λ e k h. absurd (not-suc-le-zero h);
-        above = λ e k h l. absurd (not-suc-le-self h l);
+        above = λ e k h l. absurd (not_suc_le_self h l);
       }
 
   module _ (low high : ℕ) (at : SearchAt ends c low high) (h : low < high) where
-    pub search-up : get_or ends (low + (high - low) / 2) 0 ≤ c → SearchAt ends c (low + (high - low) / 2 + 1) high
-    search-up t =
+    pub search_up : get_or ends (low + (high - low) / 2) 0 ≤ c → SearchAt ends c (low + (high - low) / 2 + 1) high
+    search_up t =
         let within = at.inside in
         record {
           order = omega arith;
@@ -59,8 +59,8 @@ module _ (ends : List ℕ) (c : ℕ) where
           above = at.above;
         }
 
-    pub search-down : c < get_or ends (low + (high - low) / 2) 0 → SearchAt ends c low (low + (high - low) / 2)
-    search-down t =
+    pub search_down : c < get_or ends (low + (high - low) / 2) 0 → SearchAt ends c low (low + (high - low) / 2)
+    search_down t =
         let within = at.inside in
         record {
           order = omega arith;
@@ -69,8 +69,8 @@ module _ (ends : List ℕ) (c : ℕ) where
           above = λ e k m l. lt_of_lt_of_le t (ascends ends e (low + (high - low) / 2) k m l);
         }
 
-  pub search-end : (low high : ℕ) → SearchAt ends c low high → high ≤ low → ascending ends ≡ true → EndsUpTo ends c low
-  search-end low high at h e =
+  pub search_end : (low high : ℕ) → SearchAt ends c low high → high ≤ low → ascending ends ≡ true → EndsUpTo ends c low
+  search_end low high at h e =
       let order = at.order in
       let within = at.inside in
       record { inside = omega arith; below = at.below e; above = λ k m l. at.above e k (omega arith) l }
@@ -85,26 +85,26 @@ tail a b ends c n at =
       above = λ k h l. at.above (suc (suc k)) (suc-le-suc (suc-le-suc h)) (suc-le-suc (suc-le-suc l));
     }
 
-none-up-to : (a b : ℕ) (ends : List ℕ) (c : ℕ) → EndsUpTo (a ∷ b ∷ ends) c 0 → EndsUpTo ends c 0
-none-up-to a b ends c at =
+none_up_to : (a b : ℕ) (ends : List ℕ) (c : ℕ) → EndsUpTo (a ∷ b ∷ ends) c 0 → EndsUpTo ends c 0
+none_up_to a b ends c at =
     record {
       inside = zero-le;
       below = λ k h. absurd (not-suc-le-zero h);
       above = λ k h l. at.above (suc (suc k)) zero-le (suc-le-suc (suc-le-suc l));
     }
 
-pub odd-inside : (ends : List ℕ) (c n : ℕ) → EndsUpTo ends c n → eqb (n % 2) 1 ≡ inEnds ends c
-unfolding inEnds
-odd-inside [] c zero at = refl
-odd-inside [] c (suc n) at = absurd (not-suc-le-zero at.inside)
-odd-inside (a ∷ []) c zero at = sym (lt-leb a c (at.above 0 zero-le (suc-le-suc zero-le)))
-odd-inside (a ∷ []) c (suc zero) at = sym (le-leb a c (at.below 0 (suc-le-suc zero-le)))
-odd-inside (a ∷ []) c (suc (suc n)) at = absurd (not-suc-le-zero (le_of_suc-le-suc at.inside))
-odd-inside (a ∷ b ∷ ends) c zero at =
-    rw (lt-leb a c (at.above 0 zero-le (suc-le-suc zero-le))) (odd-inside ends c 0 (none-up-to a b ends c at))
-odd-inside (a ∷ b ∷ ends) c (suc zero) at =
+pub odd_inside : (ends : List ℕ) (c n : ℕ) → EndsUpTo ends c n → eqb (n % 2) 1 ≡ in_ends ends c
+unfolding in_ends
+odd_inside [] c zero at = refl
+odd_inside [] c (suc n) at = absurd (not-suc-le-zero at.inside)
+odd_inside (a ∷ []) c zero at = sym (lt-leb a c (at.above 0 zero-le (suc-le-suc zero-le)))
+odd_inside (a ∷ []) c (suc zero) at = sym (le-leb a c (at.below 0 (suc-le-suc zero-le)))
+odd_inside (a ∷ []) c (suc (suc n)) at = absurd (not-suc-le-zero (le_of_suc-le-suc at.inside))
+odd_inside (a ∷ b ∷ ends) c zero at =
+    rw (lt-leb a c (at.above 0 zero-le (suc-le-suc zero-le))) (odd_inside ends c 0 (none_up_to a b ends c at))
+odd_inside (a ∷ b ∷ ends) c (suc zero) at =
     rw (le-leb a c (at.below 0 (suc-le-suc zero-le)), lt-ltb c b (at.above 1 (le_refl 1) (suc-le-suc (suc-le-suc zero-le))))
-odd-inside (a ∷ b ∷ ends) c (suc (suc n)) at =
+odd_inside (a ∷ b ∷ ends) c (suc (suc n)) at =
     let same : suc (suc n) % 2 ≡ n % 2 = omega arith in
     rw (same, le-leb a c (at.below 0 (suc-le-suc zero-le)), le-ltb c b (at.below 1 (suc-le-suc (suc-le-suc zero-le))))
-    (odd-inside ends c n (tail a b ends c n at))
+    (odd_inside ends c n (tail a b ends c n at))

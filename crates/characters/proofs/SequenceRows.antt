@@ -11,55 +11,55 @@ use lib.Seq.{drop-cons, drop-drop}
 use lib.Dec.{leb}
 use borrow.Author.Tests.{le-leb, lt-leb, ltb-true}
 use Rattle.characters.specs.Ranges.{within, ordered}
-use Rattle.characters.specs.Utf8.{fitsRow, sequenceIn, sequenceLength, table-3-7}
-use Rattle.characters.proofs.TableParts.{first, from-first, before, before-grows, closes, closes-below}
+use Rattle.characters.specs.Utf8.{fits_row, sequence_in, sequence_length, table_3_7}
+use Rattle.characters.proofs.TableParts.{first, from_first, before, before_grows, closes, closes_below}
 
 -- ---- one byte
 
 module _ (s : List ℕ) (i low high : ℕ) where
   module _ (h : i < length s) where
-    pub byte-below : get_or s i 0 < low → leb low (get_or s i 0) ≡ fitsRow ((low, high) ∷ []) (drop i s)
-    unfolding fitsRow within
-    byte-below t = rw (drop-cons s i 0 h, lt-leb low (get_or s i 0) t)
+    pub byte_below : get_or s i 0 < low → leb low (get_or s i 0) ≡ fits_row ((low, high) ∷ []) (drop i s)
+    unfolding fits_row within
+    byte_below t = rw (drop-cons s i 0 h, lt-leb low (get_or s i 0) t)
 
-    pub byte-from : low ≤ get_or s i 0 → leb (get_or s i 0) high ≡ fitsRow ((low, high) ∷ []) (drop i s)
-    unfolding fitsRow within
-    byte-from t = sym (rw (drop-cons s i 0 h, le-leb low (get_or s i 0) t) (and-true (leb (get_or s i 0) high)))
+    pub byte_from : low ≤ get_or s i 0 → leb (get_or s i 0) high ≡ fits_row ((low, high) ∷ []) (drop i s)
+    unfolding fits_row within
+    byte_from t = sym (rw (drop-cons s i 0 h, le-leb low (get_or s i 0) t) (and-true (leb (get_or s i 0) high)))
 
-  pub byte-none : length s ≤ i → false ≡ fitsRow ((low, high) ∷ []) (drop i s)
-  unfolding fitsRow
-  byte-none h = sym (rw (drop_of_length-le s h))
+  pub byte_none : length s ≤ i → false ≡ fits_row ((low, high) ∷ []) (drop i s)
+  unfolding fits_row
+  byte_none h = sym (rw (drop_of_length-le s h))
 
 -- ---- the bytes after the first
 
-starts-split : (range : ℕ × ℕ) (row : List (ℕ × ℕ)) (s : List ℕ) → fitsRow (range ∷ row) s ≡ (fitsRow (range ∷ []) s && fitsRow row (drop 1 s))
-unfolding fitsRow
-starts-split range row [] = refl
-starts-split range row (b ∷ s) = rw (and-true (within range.0 range.1 b))
+starts_split : (range : ℕ × ℕ) (row : List (ℕ × ℕ)) (s : List ℕ) → fits_row (range ∷ row) s ≡ (fits_row (range ∷ []) s && fits_row row (drop 1 s))
+unfolding fits_row
+starts_split range row [] = refl
+starts_split range row (b ∷ s) = rw (and-true (within range.0 range.1 b))
 
-module _ (s : List ℕ) (a : ℕ × ℕ) (r : Bool) (e : r ≡ fitsRow (a ∷ []) (drop 1 s)) where
-  pub second-yes : r ≡ true → ◌≡◌ {A = ℕ} 2 (cond (fitsRow (a ∷ []) (drop 1 s)) 2 0)
-  second-yes t = rw (← e, t)
+module _ (s : List ℕ) (a : ℕ × ℕ) (r : Bool) (e : r ≡ fits_row (a ∷ []) (drop 1 s)) where
+  pub second_yes : r ≡ true → ◌≡◌ {A = ℕ} 2 (cond (fits_row (a ∷ []) (drop 1 s)) 2 0)
+  second_yes t = rw (← e, t)
 
-  pub second-no : (row : List (ℕ × ℕ)) (n : ℕ) → r ≡ false → 0 ≡ cond (fitsRow (a ∷ row) (drop 1 s)) n 0
-  second-no row n f = rw (starts-split a row (drop 1 s), ← e, f)
+  pub second_no : (row : List (ℕ × ℕ)) (n : ℕ) → r ≡ false → 0 ≡ cond (fits_row (a ∷ row) (drop 1 s)) n 0
+  second_no row n f = rw (starts_split a row (drop 1 s), ← e, f)
 
-  module _ (b : ℕ × ℕ) (q : Bool) (d : q ≡ fitsRow (b ∷ []) (drop 2 s)) where
-    pub third-no : (row : List (ℕ × ℕ)) (n : ℕ) → q ≡ false → 0 ≡ cond (fitsRow (a ∷ b ∷ row) (drop 1 s)) n 0
-    third-no row n f =
-        rw (starts-split a (b ∷ row) (drop 1 s), drop-drop 1 1 s, starts-split b row (drop 2 s), ← d, f, and-false (fitsRow (a ∷ []) (drop 1 s)))
+  module _ (b : ℕ × ℕ) (q : Bool) (d : q ≡ fits_row (b ∷ []) (drop 2 s)) where
+    pub third_no : (row : List (ℕ × ℕ)) (n : ℕ) → q ≡ false → 0 ≡ cond (fits_row (a ∷ b ∷ row) (drop 1 s)) n 0
+    third_no row n f =
+        rw (starts_split a (b ∷ row) (drop 1 s), drop-drop 1 1 s, starts_split b row (drop 2 s), ← d, f, and-false (fits_row (a ∷ []) (drop 1 s)))
 
-    pub third-yes : r ≡ true → q ≡ true → ◌≡◌ {A = ℕ} 3 (cond (fitsRow (a ∷ b ∷ []) (drop 1 s)) 3 0)
-    third-yes t u = rw (starts-split a (b ∷ []) (drop 1 s), drop-drop 1 1 s, ← e, ← d, t, u)
+    pub third_yes : r ≡ true → q ≡ true → ◌≡◌ {A = ℕ} 3 (cond (fits_row (a ∷ b ∷ []) (drop 1 s)) 3 0)
+    third_yes t u = rw (starts_split a (b ∷ []) (drop 1 s), drop-drop 1 1 s, ← e, ← d, t, u)
 
-    module _ (c : ℕ × ℕ) (p : Bool) (f : p ≡ fitsRow (c ∷ []) (drop 3 s)) where
-      pub fourth-no : r ≡ true → q ≡ true → p ≡ false → ◌≡◌ {A = ℕ} 0 (cond (fitsRow (a ∷ b ∷ c ∷ []) (drop 1 s)) 4 0)
-      fourth-no t u v =
-          rw (starts-split a (b ∷ c ∷ []) (drop 1 s), drop-drop 1 1 s, starts-split b (c ∷ []) (drop 2 s), drop-drop 1 2 s, ← e, ← d, ← f, t, u, v)
+    module _ (c : ℕ × ℕ) (p : Bool) (f : p ≡ fits_row (c ∷ []) (drop 3 s)) where
+      pub fourth_no : r ≡ true → q ≡ true → p ≡ false → ◌≡◌ {A = ℕ} 0 (cond (fits_row (a ∷ b ∷ c ∷ []) (drop 1 s)) 4 0)
+      fourth_no t u v =
+          rw (starts_split a (b ∷ c ∷ []) (drop 1 s), drop-drop 1 1 s, starts_split b (c ∷ []) (drop 2 s), drop-drop 1 2 s, ← e, ← d, ← f, t, u, v)
 
-      pub fourth-yes : r ≡ true → q ≡ true → p ≡ true → ◌≡◌ {A = ℕ} 4 (cond (fitsRow (a ∷ b ∷ c ∷ []) (drop 1 s)) 4 0)
-      fourth-yes t u v =
-          rw (starts-split a (b ∷ c ∷ []) (drop 1 s), drop-drop 1 1 s, starts-split b (c ∷ []) (drop 2 s), drop-drop 1 2 s, ← e, ← d, ← f, t, u, v)
+      pub fourth_yes : r ≡ true → q ≡ true → p ≡ true → ◌≡◌ {A = ℕ} 4 (cond (fits_row (a ∷ b ∷ c ∷ []) (drop 1 s)) 4 0)
+      fourth_yes t u v =
+          rw (starts_split a (b ∷ c ∷ []) (drop 1 s), drop-drop 1 1 s, starts_split b (c ∷ []) (drop 2 s), drop-drop 1 2 s, ← e, ← d, ← f, t, u, v)
 
 -- ---- the row
 
@@ -67,17 +67,17 @@ abbrev pub Rows : Type 0
 Rows = List (List (ℕ × ℕ))
 
 -- a row's range of first bytes, and what follows. A row that is empty is of no use: its range is none.
-abbrev pub firstOf : List (ℕ × ℕ) → ℕ × ℕ
-firstOf [] = (1, 0)
-firstOf (range ∷ row) = range
+abbrev pub first_of : List (ℕ × ℕ) → ℕ × ℕ
+first_of [] = (1, 0)
+first_of (range ∷ row) = range
 
-abbrev pub restOf : List (ℕ × ℕ) → List (ℕ × ℕ)
-restOf [] = []
-restOf (range ∷ row) = row
+abbrev pub rest_of : List (ℕ × ℕ) → List (ℕ × ℕ)
+rest_of [] = []
+rest_of (range ∷ row) = row
 
 abbrev pub firsts : Rows → List (ℕ × ℕ)
 firsts [] = []
-firsts (row ∷ rows) = firstOf row ∷ firsts rows
+firsts (row ∷ rows) = first_of row ∷ firsts rows
 
 -- the rows' first bytes are in order and apart
 abbrev Apart : ℕ → Rows → Type 0
@@ -86,72 +86,72 @@ Apart least rows = ordered least (firsts rows) ≡ true
 abbrev pub none : List (ℕ × ℕ)
 none = []
 
-no-row : (least : ℕ) (rows : Rows) (b : ℕ) (s : List ℕ) → Apart least rows → b < least → sequenceIn rows (b ∷ s) ≡ 0
-unfolding sequenceIn fitsRow within
-no-row least [] b s e h = refl
-no-row least ([] ∷ rows) b s e h =
+no_row : (least : ℕ) (rows : Rows) (b : ℕ) (s : List ℕ) → Apart least rows → b < least → sequence_in rows (b ∷ s) ≡ 0
+unfolding sequence_in fits_row within
+no_row least [] b s e h = refl
+no_row least ([] ∷ rows) b s e h =
     let f = (first least (1, 0) (firsts rows) e).some in
     absurd (not-suc-le-zero f)
-no-row least ((range ∷ row) ∷ rows) b s e h =
+no_row least ((range ∷ row) ∷ rows) b s e h =
     let f = first least range (firsts rows) e in
     rw (lt-leb range.0 b (lt_of_lt_of_le h f.starts))
-    (no-row (suc range.1) rows b s f.rest (lt_of_lt_of_le h (le_trans f.starts (le_trans f.some (omega arith)))))
+    (no_row (suc range.1) rows b s f.rest (lt_of_lt_of_le h (le_trans f.starts (le_trans f.some (omega arith)))))
 
-from-least : (least : ℕ) (rows : Rows) (k b : ℕ) → Apart least rows → (firstOf (get_or rows k none)).0 ≤ b → b ≤ (firstOf (get_or rows k none)).1 → least ≤ b
-from-least least [] k b e l h = absurd (not-suc-le-zero (le_trans l h))
-from-least least (row ∷ rows) zero b e l h = le_trans (first least (firstOf row) (firsts rows) e).starts l
-from-least least (row ∷ rows) (suc k) b e l h =
-    let f = first least (firstOf row) (firsts rows) e in
-    le_trans f.starts (le_trans f.some (le_trans (omega arith) (from-least (suc (firstOf row).1) rows k b f.rest l h)))
+from_least : (least : ℕ) (rows : Rows) (k b : ℕ) → Apart least rows → (first_of (get_or rows k none)).0 ≤ b → b ≤ (first_of (get_or rows k none)).1 → least ≤ b
+from_least least [] k b e l h = absurd (not-suc-le-zero (le_trans l h))
+from_least least (row ∷ rows) zero b e l h = le_trans (first least (first_of row) (firsts rows) e).starts l
+from_least least (row ∷ rows) (suc k) b e l h =
+    let f = first least (first_of row) (firsts rows) e in
+    le_trans f.starts (le_trans f.some (le_trans (omega arith) (from_least (suc (first_of row).1) rows k b f.rest l h)))
 
 -- a first byte that lies in row k's range has that row
-row-is : (least : ℕ) (rows : Rows) (k b : ℕ) (s : List ℕ) → Apart least rows → (firstOf (get_or rows k none)).0 ≤ b → b ≤ (firstOf (get_or rows k none)).1
-    → sequenceIn rows (b ∷ s) ≡ cond (fitsRow (restOf (get_or rows k none)) s) (suc (length (restOf (get_or rows k none)))) 0
-unfolding sequenceIn fitsRow within
-row-is least [] k b s e l h = absurd (not-suc-le-zero (le_trans l h))
-row-is least ([] ∷ rows) k b s e l h = absurd (not-suc-le-zero (first least (1, 0) (firsts rows) e).some)
-row-is least ((range ∷ row) ∷ rows) zero b s e l h =
-    rw (le-leb range.0 b l, le-leb b range.1 h, no-row (suc range.1) rows b s (first least range (firsts rows) e).rest (suc-le-suc h))
-row-is least ((range ∷ row) ∷ rows) (suc k) b s e l h =
+row_is : (least : ℕ) (rows : Rows) (k b : ℕ) (s : List ℕ) → Apart least rows → (first_of (get_or rows k none)).0 ≤ b → b ≤ (first_of (get_or rows k none)).1
+    → sequence_in rows (b ∷ s) ≡ cond (fits_row (rest_of (get_or rows k none)) s) (suc (length (rest_of (get_or rows k none)))) 0
+unfolding sequence_in fits_row within
+row_is least [] k b s e l h = absurd (not-suc-le-zero (le_trans l h))
+row_is least ([] ∷ rows) k b s e l h = absurd (not-suc-le-zero (first least (1, 0) (firsts rows) e).some)
+row_is least ((range ∷ row) ∷ rows) zero b s e l h =
+    rw (le-leb range.0 b l, le-leb b range.1 h, no_row (suc range.1) rows b s (first least range (firsts rows) e).rest (suc-le-suc h))
+row_is least ((range ∷ row) ∷ rows) (suc k) b s e l h =
     let f = first least range (firsts rows) e in
-    let past : range.1 < b = from-least (suc range.1) rows k b f.rest l h in
-    rw (lt-leb b range.1 past, and-false (leb range.0 b)) (row-is (suc range.1) rows k b s f.rest l h)
+    let past : range.1 < b = from_least (suc range.1) rows k b f.rest l h in
+    rw (lt-leb b range.1 past, and-false (leb range.0 b)) (row_is (suc range.1) rows k b s f.rest l h)
 
 -- one test that the checker computes over the table
-apart : Apart 0 table-3-7
-unfolding ordered table-3-7
+apart : Apart 0 table_3_7
+unfolding ordered table_3_7
 apart = refl
 
 -- a first byte between the ranges of row k and of the row before it has none
-gap-is : (least : ℕ) (rows : Rows) (k b : ℕ) (s : List ℕ) → Apart least rows → before least (firsts rows) k ≤ b → closes (drop k (firsts rows)) b ≡ true → sequenceIn rows (b ∷ s) ≡ 0
-unfolding sequenceIn fitsRow within
-gap-is least [] k b s e l h = refl
-gap-is least (row ∷ rows) zero b s e l h =
-    no-row (firstOf row).0 (row ∷ rows) b s (from-first least (firstOf row) (firsts rows) e) (ltb-true b (firstOf row).0 h)
-gap-is least ([] ∷ rows) (suc k) b s e l h = absurd (not-suc-le-zero (first least (1, 0) (firsts rows) e).some)
-gap-is least ((range ∷ row) ∷ rows) (suc k) b s e l h =
+gap_is : (least : ℕ) (rows : Rows) (k b : ℕ) (s : List ℕ) → Apart least rows → before least (firsts rows) k ≤ b → closes (drop k (firsts rows)) b ≡ true → sequence_in rows (b ∷ s) ≡ 0
+unfolding sequence_in fits_row within
+gap_is least [] k b s e l h = refl
+gap_is least (row ∷ rows) zero b s e l h =
+    no_row (first_of row).0 (row ∷ rows) b s (from_first least (first_of row) (firsts rows) e) (ltb-true b (first_of row).0 h)
+gap_is least ([] ∷ rows) (suc k) b s e l h = absurd (not-suc-le-zero (first least (1, 0) (firsts rows) e).some)
+gap_is least ((range ∷ row) ∷ rows) (suc k) b s e l h =
     let f = first least range (firsts rows) e in
-    let past : range.1 < b = le_trans (before-grows (suc range.1) (firsts rows) k f.rest) l in
-    rw (lt-leb b range.1 past, and-false (leb range.0 b)) (gap-is (suc range.1) rows k b s f.rest l h)
+    let past : range.1 < b = le_trans (before_grows (suc range.1) (firsts rows) k f.rest) l in
+    rw (lt-leb b range.1 past, and-false (leb range.0 b)) (gap_is (suc range.1) rows k b s f.rest l h)
 
 -- as `sequence_length` uses them
 
-pub sequence-none : (s : List ℕ) → length s ≡ 0 → 0 ≡ sequenceLength s
-unfolding sequenceLength sequenceIn table-3-7 fitsRow
-sequence-none [] h = refl
-sequence-none (b ∷ s) h = absurd (let z : ⊥ = omega arith in z)
+pub sequence_none : (s : List ℕ) → length s ≡ 0 → 0 ≡ sequence_length s
+unfolding sequence_length sequence_in table_3_7 fits_row
+sequence_none [] h = refl
+sequence_none (b ∷ s) h = absurd (let z : ⊥ = omega arith in z)
 
-pub sequence-row : (k : ℕ) (s : List ℕ) (r : ℕ) → 0 < length s → (firstOf (get_or table-3-7 k none)).0 ≤ get_or s 0 0 → get_or s 0 0 ≤ (firstOf (get_or table-3-7 k none)).1
-    → r ≡ cond (fitsRow (restOf (get_or table-3-7 k none)) (drop 1 s)) (suc (length (restOf (get_or table-3-7 k none)))) 0
-    → r ≡ sequenceLength s
-unfolding sequenceLength
-sequence-row k [] r o l h e = absurd (not-suc-le-zero o)
-sequence-row k (b ∷ s) r o l h e = e ∙ sym (row-is 0 table-3-7 k b s apart l h)
+pub sequence_row : (k : ℕ) (s : List ℕ) (r : ℕ) → 0 < length s → (first_of (get_or table_3_7 k none)).0 ≤ get_or s 0 0 → get_or s 0 0 ≤ (first_of (get_or table_3_7 k none)).1
+    → r ≡ cond (fits_row (rest_of (get_or table_3_7 k none)) (drop 1 s)) (suc (length (rest_of (get_or table_3_7 k none)))) 0
+    → r ≡ sequence_length s
+unfolding sequence_length
+sequence_row k [] r o l h e = absurd (not-suc-le-zero o)
+sequence_row k (b ∷ s) r o l h e = e ∙ sym (row_is 0 table_3_7 k b s apart l h)
 
-pub sequence-gap : (k : ℕ) (s : List ℕ) → 0 < length s → before 0 (firsts table-3-7) k ≤ get_or s 0 0 → closes (drop k (firsts table-3-7)) (get_or s 0 0) ≡ true → 0 ≡ sequenceLength s
-unfolding sequenceLength
-sequence-gap k [] o l h = absurd (not-suc-le-zero o)
-sequence-gap k (b ∷ s) o l h = sym (gap-is 0 table-3-7 k b s apart l h)
+pub sequence_gap : (k : ℕ) (s : List ℕ) → 0 < length s → before 0 (firsts table_3_7) k ≤ get_or s 0 0 → closes (drop k (firsts table_3_7)) (get_or s 0 0) ≡ true → 0 ≡ sequence_length s
+unfolding sequence_length
+sequence_gap k [] o l h = absurd (not-suc-le-zero o)
+sequence_gap k (b ∷ s) o l h = sym (gap_is 0 table_3_7 k b s apart l h)
 
-pub sequence-between : (k high : ℕ) → closes (drop k (firsts table-3-7)) high ≡ true → (s : List ℕ) → 0 < length s → before 0 (firsts table-3-7) k ≤ get_or s 0 0 → get_or s 0 0 ≤ high → 0 ≡ sequenceLength s
-sequence-between k high e s o l h = sequence-gap k s o l (closes-below (drop k (firsts table-3-7)) (get_or s 0 0) high h e)
+pub sequence_between : (k high : ℕ) → closes (drop k (firsts table_3_7)) high ≡ true → (s : List ℕ) → 0 < length s → before 0 (firsts table_3_7) k ≤ get_or s 0 0 → get_or s 0 0 ≤ high → 0 ≡ sequence_length s
+sequence_between k high e s o l h = sequence_gap k s o l (closes_below (drop k (firsts table_3_7)) (get_or s 0 0) high h e)

@@ -8,22 +8,22 @@ use borrow.Author.Tests.{le-leb, lt-leb, leb-true}
 use Rattle.characters.specs.Ranges.{within}
 
 module _ (a b c : ℕ) where
-  pub within-low : within a b c ≡ true → a ≤ c
+  pub within_low : within a b c ≡ true → a ≤ c
   unfolding within
-  within-low e = leb-true a c ((and-eq-true_iff (leb a c) (leb c b)).0 e).0
+  within_low e = leb-true a c ((and-eq-true_iff (leb a c) (leb c b)).0 e).0
 
-  pub within-high : within a b c ≡ true → c ≤ b
+  pub within_high : within a b c ≡ true → c ≤ b
   unfolding within
-  within-high e = leb-true c b ((and-eq-true_iff (leb a c) (leb c b)).0 e).1
+  within_high e = leb-true c b ((and-eq-true_iff (leb a c) (leb c b)).0 e).1
 
-  pub within-is : a ≤ c → c ≤ b → within a b c ≡ true
+  pub within_is : a ≤ c → c ≤ b → within a b c ≡ true
   unfolding within
-  within-is h l = rw (le-leb a c h, le-leb c b l)
+  within_is h l = rw (le-leb a c h, le-leb c b l)
 
-  pub below-not : c < a → within a b c ≡ false
+  pub below_not : c < a → within a b c ≡ false
   unfolding within
-  below-not h = rw (lt-leb a c h)
+  below_not h = rw (lt-leb a c h)
 
-  pub above-not : b < c → within a b c ≡ false
+  pub above_not : b < c → within a b c ≡ false
   unfolding within
-  above-not h = rw (lt-leb c b h) (and-false (leb a c))
+  above_not h = rw (lt-leb c b h) (and-false (leb a c))

@@ -5,8 +5,8 @@ use Rattle.std.specs.Prelude.{ℕ, zero, suc, ◌+◌, ◌-◌, ◌*◌, ◌%◌
 use Rattle.characters.specs.Ranges.{within}
 use Rattle.characters.specs.declared.Character.{Character}
 
-unfoldable pub isContinuation : ℕ → Bool
-isContinuation b = within 0x80 0xBF b
+unfoldable pub is_continuation : ℕ → Bool
+is_continuation b = within 0x80 0xBF b
 
 -- how many continuation bytes a first byte calls for (table 3-6)
 unfoldable pub continuations : ℕ → ℕ
@@ -16,25 +16,25 @@ continuations b = cond (ltb b 0xC0) 0 (cond (ltb b 0xE0) 1 (cond (ltb b 0xF0) 2 
 unfoldable pub continued : ℕ → List ℕ → ℕ
 continued zero bytes = 0
 continued (suc n) [] = 0
-continued (suc n) (b ∷ bytes) = cond (isContinuation b) (suc (continued n bytes)) 0
+continued (suc n) (b ∷ bytes) = cond (is_continuation b) (suc (continued n bytes)) 0
 
 -- the bits of a first byte that belong to the scalar value (table 3-6)
-unfoldable pub firstBits : ℕ → ℕ
-firstBits b = cond (ltb b 0x80) b (cond (ltb b 0xC0) 0 (cond (ltb b 0xE0) (b - 0xC0) (cond (ltb b 0xF0) (b - 0xE0) (b - 0xF0))))
+unfoldable pub first_bits : ℕ → ℕ
+first_bits b = cond (ltb b 0x80) b (cond (ltb b 0xC0) 0 (cond (ltb b 0xE0) (b - 0xC0) (cond (ltb b 0xF0) (b - 0xE0) (b - 0xF0))))
 
 -- the value with six bits more from each continuation byte
-unfoldable pub withBits : ℕ → List ℕ → ℕ
-withBits value [] = value
-withBits value (b ∷ bytes) = withBits (value * 64 + b % 64) bytes
+unfoldable pub with_bits : ℕ → List ℕ → ℕ
+with_bits value [] = value
+with_bits value (b ∷ bytes) = with_bits (value * 64 + b % 64) bytes
 
-unfoldable pub characterLength : List ℕ → ℕ
-characterLength [] = 0
-characterLength (b ∷ bytes) = suc (continued (continuations b) bytes)
+unfoldable pub character_length : List ℕ → ℕ
+character_length [] = 0
+character_length (b ∷ bytes) = suc (continued (continuations b) bytes)
 
-unfoldable pub codePoint : List ℕ → ℕ
-codePoint [] = 0
-codePoint (b ∷ bytes) =
-    cond (eqb (continued (continuations b) bytes) (continuations b)) (withBits (firstBits b) (take (continuations b) bytes)) 0
+unfoldable pub code_point : List ℕ → ℕ
+code_point [] = 0
+code_point (b ∷ bytes) =
+    cond (eqb (continued (continuations b) bytes) (continuations b)) (with_bits (first_bits b) (take (continuations b) bytes)) 0
 
 unfoldable pub character : List ℕ → Character
-character bytes = record { code_point = codePoint bytes; len = characterLength bytes }
+character bytes = record { code_point = code_point bytes; len = character_length bytes }

@@ -6,9 +6,9 @@ unfoldable pub within : ℕ → ℕ → ℕ → Bool
 within first last c = leb first c && leb c last
 
 -- c lies in one of the ranges
-unfoldable pub inRanges : List (ℕ × ℕ) → ℕ → Bool
-inRanges [] c = false
-inRanges (range ∷ ranges) c = within range.0 range.1 c || inRanges ranges c
+unfoldable pub in_ranges : List (ℕ × ℕ) → ℕ → Bool
+in_ranges [] c = false
+in_ranges (range ∷ ranges) c = within range.0 range.1 c || in_ranges ranges c
 
 -- the ranges are in order and apart, and none starts below `least`
 unfoldable pub ordered : ℕ → List (ℕ × ℕ) → Bool

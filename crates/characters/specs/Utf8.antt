@@ -5,8 +5,8 @@ use Rattle.characters.specs.declared.IllFormed.{IllFormed}
 use Rattle.characters.specs.declared.IllFormed.TheVariants.{At, Nowhere}
 
 -- Table 3-7. A row has the bytes, from first to last, that may stand at each place of a sequence.
-unfoldable pub table-3-7 : List (List (ℕ × ℕ))
-table-3-7 =
+unfoldable pub table_3_7 : List (List (ℕ × ℕ))
+table_3_7 =
     ((0x00, 0x7F) ∷ [])
     ∷ ((0xC2, 0xDF) ∷ (0x80, 0xBF) ∷ [])
     ∷ ((0xE0, 0xE0) ∷ (0xA0, 0xBF) ∷ (0x80, 0xBF) ∷ [])
@@ -19,29 +19,29 @@ table-3-7 =
     ∷ []
 
 -- a sequence of the row stands at the start of the bytes
-unfoldable pub fitsRow : List (ℕ × ℕ) → List ℕ → Bool
-fitsRow [] bytes = true
-fitsRow (range ∷ row) [] = false
-fitsRow (range ∷ row) (b ∷ bytes) = within range.0 range.1 b && fitsRow row bytes
+unfoldable pub fits_row : List (ℕ × ℕ) → List ℕ → Bool
+fits_row [] bytes = true
+fits_row (range ∷ row) [] = false
+fits_row (range ∷ row) (b ∷ bytes) = within range.0 range.1 b && fits_row row bytes
 
 -- the length of the sequence at the start of the bytes, by the first row that has it; 0 where no row does
-unfoldable pub sequenceIn : List (List (ℕ × ℕ)) → List ℕ → ℕ
-sequenceIn [] bytes = 0
-sequenceIn (row ∷ rows) bytes = cond (fitsRow row bytes) (length row) (sequenceIn rows bytes)
+unfoldable pub sequence_in : List (List (ℕ × ℕ)) → List ℕ → ℕ
+sequence_in [] bytes = 0
+sequence_in (row ∷ rows) bytes = cond (fits_row row bytes) (length row) (sequence_in rows bytes)
 
-unfoldable pub sequenceLength : List ℕ → ℕ
-sequenceLength bytes = sequenceIn table-3-7 bytes
+unfoldable pub sequence_length : List ℕ → ℕ
+sequence_length bytes = sequence_in table_3_7 bytes
 
 -- how many bytes are filled by well-formed sequences, one after the other from the start on, where the first `passed`
 -- bytes belong to a sequence that has been seen
-unfoldable pub wellFormedFrom : ℕ → List ℕ → ℕ
-wellFormedFrom passed [] = 0
-wellFormedFrom (suc passed) (b ∷ bytes) = suc (wellFormedFrom passed bytes)
-wellFormedFrom zero (b ∷ bytes) = elim (sequenceLength (b ∷ bytes)) [ zero ↦ 0 | suc n ↦ suc (wellFormedFrom n bytes) ]
+unfoldable pub well_formed_from : ℕ → List ℕ → ℕ
+well_formed_from passed [] = 0
+well_formed_from (suc passed) (b ∷ bytes) = suc (well_formed_from passed bytes)
+well_formed_from zero (b ∷ bytes) = elim (sequence_length (b ∷ bytes)) [ zero ↦ 0 | suc n ↦ suc (well_formed_from n bytes) ]
 
 -- the start of the first ill-formed sequence
-unfoldable pub firstIllFormed : List ℕ → IllFormed
-firstIllFormed bytes = cond (ltb (wellFormedFrom 0 bytes) (length bytes)) (At (wellFormedFrom 0 bytes)) Nowhere
+unfoldable pub first_ill_formed : List ℕ → IllFormed
+first_ill_formed bytes = cond (ltb (well_formed_from 0 bytes) (length bytes)) (At (well_formed_from 0 bytes)) Nowhere
 
-unfoldable pub wellFormed : List ℕ → Bool
-wellFormed bytes = leb (length bytes) (wellFormedFrom 0 bytes)
+unfoldable pub well_formed : List ℕ → Bool
+well_formed bytes = leb (length bytes) (well_formed_from 0 bytes)

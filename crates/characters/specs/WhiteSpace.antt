@@ -2,8 +2,8 @@
 -- 10 ranges, 25 code points; each range is its first and its last code point.
 use Rattle.std.specs.Prelude.{ℕ, List, [], ◌∷◌}
 
-unfoldable pub whiteSpace : List (ℕ × ℕ)
-whiteSpace =
+unfoldable pub white_space : List (ℕ × ℕ)
+white_space =
     (0x0009, 0x000D)
     ∷ (0x0020, 0x0020)
     ∷ (0x0085, 0x0085)

@@ -2,7 +2,7 @@
 // Each range is its first code point and the one past its last. An array has at most 32 ranges.
 // A lookup borrows the one that it reaches: a copy would cost every call its size of stack.
 ghost use Rattle.std.specs.Prelude.{◌≡◌};
-ghost use Rattle.characters.specs.Ranges.{inRanges};
+ghost use Rattle.characters.specs.Ranges.{in_ranges};
 ghost use Rattle.characters.specs.Connector.{connector};
 
 use crate::ranges::in_ranges;
@@ -12,7 +12,7 @@ const FROM_005F: [u32; 12] = [
 ];
 
 pub fn contains(c: u32) -> bool
-    ensures { result ≡ inRanges connector c }
+    ensures { result ≡ in_ranges connector c }
 {
     in_ranges(&FROM_005F, c)
 }

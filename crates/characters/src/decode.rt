@@ -1,11 +1,11 @@
 // The character at a place of a text.
 ghost use Rattle.std.specs.Prelude.{◌≡◌, ◌<◌, length, get_or, drop};
-ghost use Rattle.characters.specs.Character.{isContinuation, continuations, firstBits, character};
+ghost use Rattle.characters.specs.Character.{is_continuation, continuations, first_bits, character};
 
 use crate::Character;
 
 fn is_continuation(b: u8) -> bool
-    ensures { result ≡ isContinuation b }
+    ensures { result ≡ is_continuation b }
 {
     0x80 <= b && b <= 0xBF
 }
@@ -25,7 +25,7 @@ fn continuations_of(first: u8) -> usize
 }
 
 fn first_bits(first: u8) -> u32
-    ensures { result ≡ firstBits first }
+    ensures { result ≡ first_bits first }
 {
     if first < 0x80 {
         wide(first)
@@ -50,7 +50,7 @@ fn wide(b: u8) -> u32
 fn with_continuations(bytes: &[u8], wanted: usize, bits: u32) -> Character
     requires bytes_nonzero { 0 < length bytes.now }
     requires wanted_value { wanted ≡ continuations (get_or bytes.now 0 0) }
-    requires bits_value { bits ≡ firstBits (get_or bytes.now 0 0) }
+    requires bits_value { bits ≡ first_bits (get_or bytes.now 0 0) }
     ensures { result ≡ character bytes.now }
 {
     let mut code_point = bits;

@@ -2,7 +2,7 @@
 // Each range is its first code point and the one past its last. An array has at most 32 ranges.
 // A lookup borrows the one that it reaches: a copy would cost every call its size of stack.
 ghost use Rattle.std.specs.Prelude.{◌≡◌};
-ghost use Rattle.characters.specs.Ranges.{inRanges};
+ghost use Rattle.characters.specs.Ranges.{in_ranges};
 ghost use Rattle.characters.specs.Mark.{mark};
 
 use crate::ranges::in_ranges;
@@ -78,7 +78,7 @@ const FROM_1D17B: [u32; 24] = [
 ];
 
 pub fn contains(c: u32) -> bool
-    ensures { result ≡ inRanges mark c }
+    ensures { result ≡ in_ranges mark c }
 {
     match c {
         0x0000..=0x09CA => in_ranges(&FROM_0300, c),

@@ -1,7 +1,7 @@
 // One range of code points, and lookup in ranges that are laid out as their ends.
 ghost use Rattle.std.specs.Prelude.{◌≡◌, true, ◌+◌};
 ghost use Rattle.characters.specs.Ranges.{within};
-ghost use Rattle.characters.specs.Inner.Ends.{inEnds, ascending, EndsUpTo};
+ghost use Rattle.characters.specs.Inner.Ends.{in_ends, ascending, EndsUpTo};
 
 pub fn within(first: u32, last: u32, c: u32) -> bool
     ensures { result ≡ within first last c }
@@ -28,7 +28,7 @@ fn ends_up_to(ends: &[u32], c: u32) -> usize
 
 // c lies in one of the ranges: the number of ends up to it is odd.
 pub fn in_ranges(ends: &[u32], c: u32) -> bool
-    ensures { ascending ends.now ≡ true → result ≡ inEnds ends.now c }
+    ensures { ascending ends.now ≡ true → result ≡ in_ends ends.now c }
 {
     ends_up_to(ends, c) % 2 == 1
 }

@@ -1,7 +1,7 @@
 // Runs of characters of one class.
 ghost use Rattle.std.specs.Prelude.{◌≡◌, cond, ◌&&◌, ◌<◌, ltb, length, drop};
-ghost use Rattle.characters.specs.Character.{codePoint, characterLength};
-ghost use Rattle.characters.specs.Runs.{inClass, run};
+ghost use Rattle.characters.specs.Character.{code_point, character_length};
+ghost use Rattle.characters.specs.Runs.{in_class, run};
 ghost use Rattle.characters.specs.Inner.RunAt.{RunAt};
 
 use crate::ascii::{ascii_kind, is_ascii_word, is_space};
@@ -11,7 +11,7 @@ use crate::{Class, ascii};
 
 #[inline(always)]
 fn contains(class: Class, c: u32) -> bool
-    ensures { result ≡ inClass class c }
+    ensures { result ≡ in_class class c }
 {
     match class {
         Class::Whitespace => is_whitespace(c),
@@ -22,7 +22,7 @@ fn contains(class: Class, c: u32) -> bool
 
 // An ASCII placeholder-name character is a letter, a digit, `.`, `_` or `$`.
 fn ascii_name_contains(b: u8) -> bool
-    ensures { result ≡ (ltb b 128 && inClass Class.PlaceholderName b) }
+    ensures { result ≡ (ltb b 128 && in_class Class.PlaceholderName b) }
 {
     let kind = ascii_kind(b as u32);
     kind == ascii::ALPHABETIC || (kind == ascii::NUMERIC || (b == 0x2E || (b == 0x5F || b == 0x24)))
@@ -30,7 +30,7 @@ fn ascii_name_contains(b: u8) -> bool
 
 // An ASCII character of the class.
 fn ascii_contains(class: Class, b: u8) -> bool
-    ensures { result ≡ (ltb b 128 && inClass class b) }
+    ensures { result ≡ (ltb b 128 && in_class class b) }
 {
     match class {
         Class::Whitespace => is_space(b as u32),
@@ -43,7 +43,7 @@ fn ascii_contains(class: Class, b: u8) -> bool
 #[inline(always)]
 fn step(bytes: &[u8], i: usize, class: Class) -> usize
     requires { i < length bytes.now }
-    ensures { result ≡ cond (inClass class (codePoint (drop i bytes.now))) (characterLength (drop i bytes.now)) 0 }
+    ensures { result ≡ cond (in_class class (code_point (drop i bytes.now))) (character_length (drop i bytes.now)) 0 }
 {
     let b = bytes[i];
     if b < 128 {
@@ -62,7 +62,7 @@ fn step(bytes: &[u8], i: usize, class: Class) -> usize
 // The same run, from a place that it reaches on.
 pub fn run_from(bytes: &[u8], from: usize, class: Class) -> usize
     requires { RunAt class bytes.now from }
-    ensures { result ≡ run (inClass class) 0 bytes.now }
+    ensures { result ≡ run (in_class class) 0 bytes.now }
 {
     let mut i = from;
     while i < bytes.len() {
@@ -77,7 +77,7 @@ pub fn run_from(bytes: &[u8], from: usize, class: Class) -> usize
 
 // How many bytes the characters of the class take at the start.
 pub fn run_of(bytes: &[u8], class: Class) -> usize
-    ensures { result ≡ run (inClass class) 0 bytes.now }
+    ensures { result ≡ run (in_class class) 0 bytes.now }
 {
     let mut i = 0;
     while i < bytes.len() {

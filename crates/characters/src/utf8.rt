@@ -1,14 +1,14 @@
 // UTF-8 as the Unicode Standard defines it, table 3-7.
 ghost use Rattle.std.specs.Prelude.{◌≡◌, cond, [], ◌∷◌, ◌+◌, ◌≤◌, length, drop};
-ghost use Rattle.characters.specs.Inner.Blocks.{asciiRun, allAscii, AsciiUpTo};
-ghost use Rattle.characters.specs.Utf8.{fitsRow, sequenceLength, firstIllFormed};
+ghost use Rattle.characters.specs.Inner.Blocks.{ascii_run, all_ascii, AsciiUpTo};
+ghost use Rattle.characters.specs.Utf8.{fits_row, sequence_length, first_ill_formed};
 
 use crate::IllFormed;
 
 // Four bytes from i on are ASCII.
 fn four_ascii(bytes: &[u8], i: usize) -> bool
     requires { i + 4 ≤ length bytes.now }
-    ensures { result ≡ allAscii 4 (drop i bytes.now) }
+    ensures { result ≡ all_ascii 4 (drop i bytes.now) }
 {
     (bytes[i] < 0x80) & (bytes[i + 1] < 0x80) & (bytes[i + 2] < 0x80) & (bytes[i + 3] < 0x80)
 }
@@ -16,7 +16,7 @@ fn four_ascii(bytes: &[u8], i: usize) -> bool
 // Sixteen are. Compiled, this is one load and one test.
 fn sixteen_ascii(bytes: &[u8], i: usize) -> bool
     requires { i + 16 ≤ length bytes.now }
-    ensures { result ≡ allAscii 16 (drop i bytes.now) }
+    ensures { result ≡ all_ascii 16 (drop i bytes.now) }
 {
     four_ascii(bytes, i)
         & four_ascii(bytes, i + 4)
@@ -41,7 +41,7 @@ fn ascii_blocks(bytes: &[u8]) -> usize
 
 // How many ASCII bytes stand at the start.
 fn ascii_run(bytes: &[u8]) -> usize
-    ensures { result ≡ asciiRun bytes.now }
+    ensures { result ≡ ascii_run bytes.now }
 {
     let mut i = ascii_blocks(bytes);
     while i < bytes.len() {
@@ -56,7 +56,7 @@ fn ascii_run(bytes: &[u8]) -> usize
 
 // The byte at i is there and lies from low to high.
 fn byte_within(bytes: &[u8], i: usize, low: u8, high: u8) -> bool
-    ensures { result ≡ fitsRow ((low, high) ∷ []) (drop i bytes.now) }
+    ensures { result ≡ fits_row ((low, high) ∷ []) (drop i bytes.now) }
 {
     if i < bytes.len() {
         let b = bytes[i];
@@ -67,7 +67,7 @@ fn byte_within(bytes: &[u8], i: usize, low: u8, high: u8) -> bool
 
 // The lengths of sequences whose second byte lies from low to high, 0 where the bytes have none.
 fn two_bytes(bytes: &[u8], low: u8, high: u8) -> usize
-    ensures { result ≡ cond (fitsRow ((low, high) ∷ []) (drop 1 bytes.now)) 2 0 }
+    ensures { result ≡ cond (fits_row ((low, high) ∷ []) (drop 1 bytes.now)) 2 0 }
 {
     if byte_within(bytes, 1, low, high) {
         2
@@ -77,7 +77,7 @@ fn two_bytes(bytes: &[u8], low: u8, high: u8) -> usize
 }
 
 fn three_bytes(bytes: &[u8], low: u8, high: u8) -> usize
-    ensures { result ≡ cond (fitsRow ((low, high) ∷ (0x80, 0xBF) ∷ []) (drop 1 bytes.now)) 3 0 }
+    ensures { result ≡ cond (fits_row ((low, high) ∷ (0x80, 0xBF) ∷ []) (drop 1 bytes.now)) 3 0 }
 {
     if byte_within(bytes, 1, low, high) {
         if byte_within(bytes, 2, 0x80, 0xBF) {
@@ -88,7 +88,7 @@ fn three_bytes(bytes: &[u8], low: u8, high: u8) -> usize
 }
 
 fn four_bytes(bytes: &[u8], low: u8, high: u8) -> usize
-    ensures { result ≡ cond (fitsRow ((low, high) ∷ (0x80, 0xBF) ∷ (0x80, 0xBF) ∷ []) (drop 1 bytes.now)) 4 0 }
+    ensures { result ≡ cond (fits_row ((low, high) ∷ (0x80, 0xBF) ∷ (0x80, 0xBF) ∷ []) (drop 1 bytes.now)) 4 0 }
 {
     if byte_within(bytes, 1, low, high) {
         if byte_within(bytes, 2, 0x80, 0xBF) {
@@ -102,7 +102,7 @@ fn four_bytes(bytes: &[u8], low: u8, high: u8) -> usize
 
 // Table 3-7, row by row: the length of the well-formed sequence at the start, 0 where there is none.
 fn sequence_length(bytes: &[u8]) -> usize
-    ensures { result ≡ sequenceLength bytes.now }
+    ensures { result ≡ sequence_length bytes.now }
 {
     if bytes.len() == 0 {
         return 0;
@@ -124,7 +124,7 @@ fn sequence_length(bytes: &[u8]) -> usize
 
 // Where the text is ill-formed first, in one pass.
 pub fn first_ill_formed(text: &[u8]) -> IllFormed
-    ensures { result ≡ firstIllFormed text.now }
+    ensures { result ≡ first_ill_formed text.now }
 {
     let mut at = 0;
     while at < text.len() {

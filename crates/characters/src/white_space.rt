@@ -2,8 +2,8 @@
 // Each range is its first code point and the one past its last. An array has at most 32 ranges.
 // A lookup borrows the one that it reaches: a copy would cost every call its size of stack.
 ghost use Rattle.std.specs.Prelude.{◌≡◌};
-ghost use Rattle.characters.specs.Ranges.{inRanges};
-ghost use Rattle.characters.specs.WhiteSpace.{whiteSpace};
+ghost use Rattle.characters.specs.Ranges.{in_ranges};
+ghost use Rattle.characters.specs.WhiteSpace.{white_space};
 
 use crate::ranges::in_ranges;
 
@@ -13,7 +13,7 @@ const FROM_0009: [u32; 20] = [
 ];
 
 pub fn contains(c: u32) -> bool
-    ensures { result ≡ inRanges whiteSpace c }
+    ensures { result ≡ in_ranges white_space c }
 {
     in_ranges(&FROM_0009, c)
 }

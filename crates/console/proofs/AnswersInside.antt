@@ -7,28 +7,28 @@ use Rattle.calls.specs.declared.Checked.TheVariants as C
 use Rattle.calls.specs.declared.Settings.{Settings}
 use Rattle.calls.specs.declared.TextAnswer.{TextAnswer}
 use Rattle.calls.specs.declared.TextAnswer.TheVariants.{Written, Refused}
-use Rattle.calls.specs.Texts.{textAnswer, textAfter, callAnswer, callOutput}
-use Rattle.calls.proofs.TextCalls.{call-written}
-use Rattle.console.specs.Printed.{WrittenInside, answerText, textPrinted, callPrinted}
+use Rattle.calls.specs.Texts.{text_answer, text_after, call_answer, call_output}
+use Rattle.calls.proofs.TextCalls.{call_written}
+use Rattle.console.specs.Printed.{WrittenInside, answer_text, text_printed, call_printed}
 
-pub answer-inside : (text : Settings → List ℕ) (output after : List ℕ) (c : Checked) (r : TextAnswer)
-    → r ≡ callAnswer text (length output) c → after ≡ callOutput text output c → WrittenInside r (length after)
-answer-inside text output after c (Written n) e f = rw f (call-written text output c n (sym e))
-answer-inside text output after c (Refused refusal) e f = tt
+pub answer_inside : (text : Settings → List ℕ) (output after : List ℕ) (c : Checked) (r : TextAnswer)
+    → r ≡ call_answer text (length output) c → after ≡ call_output text output c → WrittenInside r (length after)
+answer_inside text output after c (Written n) e f = rw f (call_written text output c n (sym e))
+answer_inside text output after c (Refused refusal) e f = tt
 
-text-printed : (text output : List ℕ) → answerText (textAnswer text (length output)) (textAfter text output) ≡ textPrinted text (length output)
-unfolding textAnswer textAfter
-text-printed text output = go (ltb (length output) (length text)) refl
+text_printed_lem : (text output : List ℕ) → answer_text (text_answer text (length output)) (text_after text output) ≡ text_printed text (length output)
+unfolding text_answer text_after
+text_printed_lem text output = go (ltb (length output) (length text)) refl
   where
-    go : (b : Bool) → ltb (length output) (length text) ≡ b → answerText (textAnswer text (length output)) (textAfter text output) ≡ textPrinted text (length output)
+    go : (b : Bool) → ltb (length output) (length text) ≡ b → answer_text (text_answer text (length output)) (text_after text output) ≡ text_printed text (length output)
     go true e = rw e
     go false e = rw e (take-append_seam text (drop (length text) output))
 
-call-printed : (text : Settings → List ℕ) (output : List ℕ) (c : Checked) → answerText (callAnswer text (length output) c) (callOutput text output c) ≡ callPrinted text (length output) c
-unfolding callAnswer callOutput callPrinted
-call-printed text output (C.Accepted settings) = text-printed (text settings) output
-call-printed text output (C.Refused refusal) = refl
+call_printed_lem : (text : Settings → List ℕ) (output : List ℕ) (c : Checked) → answer_text (call_answer text (length output) c) (call_output text output c) ≡ call_printed text (length output) c
+unfolding call_answer call_output call_printed
+call_printed_lem text output (C.Accepted settings) = text_printed_lem (text settings) output
+call_printed_lem text output (C.Refused refusal) = refl
 
-pub answer-printed : (text : Settings → List ℕ) (output after : List ℕ) (c : Checked) (r : TextAnswer)
-    → r ≡ callAnswer text (length output) c → after ≡ callOutput text output c → answerText r after ≡ callPrinted text (length output) c
-answer-printed text output after c r e f = ap₂ answerText e f ∙ call-printed text output c
+pub answer_printed : (text : Settings → List ℕ) (output after : List ℕ) (c : Checked) (r : TextAnswer)
+    → r ≡ call_answer text (length output) c → after ≡ call_output text output c → answer_text r after ≡ call_printed text (length output) c
+answer_printed text output after c r e f = ap₂ answer_text e f ∙ call_printed_lem text output c

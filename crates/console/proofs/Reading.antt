@@ -6,13 +6,13 @@ use Rattle.std.proofs.KnownBytes.{Consumes-trans}
 use borrow.Rule.Slice.PartMut.{put_mid, post_of}
 use lib.Seq.{take-add, take-append-le}
 
-take-split : (a b : ℕ) (old new : List ℕ) → a ≤ b → take a new ≡ take a old → take a old ++ slice_range new a b ≡ take b new
-take-split a b old new h front =
+take_split : (a b : ℕ) (old new : List ℕ) → a ≤ b → take a new ≡ take a old → take a old ++ slice_range new a b ≡ take b new
+take_split a b old new h front =
     let same : a + (b - a) ≡ b = omega arith in
     ap (λ l. l ++ slice_range new a b) (sym front) ∙ sym (take-add a (b - a) new) ∙ ap (λ n. take n new) same
 
-slice_range-put_mid : (a k n : ℕ) (xs ys : List ℕ) → a ≤ length xs → n ≤ length ys → slice_range (put_mid a k xs ys) a (a + n) ≡ take n ys
-slice_range-put_mid a k n xs ys within fits =
+slice_range_put_mid : (a k n : ℕ) (xs ys : List ℕ) → a ≤ length xs → n ≤ length ys → slice_range (put_mid a k xs ys) a (a + n) ≡ take n ys
+slice_range_put_mid a k n xs ys within fits =
     let same : (a + n) - a ≡ n = omega arith in
     let after = post_of a k xs in
     ap (take ((a + n) - a)) (drop_at (take a xs) (ys ++ after) a (length-take-le a xs within)) ∙ ap (λ m. take m (ys ++ after)) same ∙ take-append-le n ys after fits
@@ -23,6 +23,6 @@ pub Consumes-next : (a b c : Option (List ℕ)) (from n : ℕ) (space read : Lis
     → Consumes a c (take (from + n) (put_mid from (length space - from) space read))
 Consumes-next a b c from n space read within fits before more =
     let room = length space - from in
-    let part = slice_range-put_mid from room n space read within fits in
-    let joined = take-split from (from + n) space (put_mid from room space read) (omega arith) (take-put_mid_below _ _ _ _ _ (le_refl _) within) in
+    let part = slice_range_put_mid from room n space read within fits in
+    let joined = take_split from (from + n) space (put_mid from room space read) (omega arith) (take-put_mid_below _ _ _ _ _ (le_refl _) within) in
     subst (Consumes a c) (ap (λ l. take from space ++ l) (sym part) ∙ joined) (Consumes-trans _ _ _ _ _ before more)

@@ -1,7 +1,7 @@
 -- What printing an answer asks for, and what is printed.
 use Rattle.std.specs.Prelude.{ℕ, ◌≤◌, cond, List, ◌++◌, ltb, length, take, codes, decimal}
-use Rattle.calls.specs.Checks.{acceptedOr}
-use Rattle.calls.specs.Refusals.{refusalNumber}
+use Rattle.calls.specs.Checks.{accepted_or}
+use Rattle.calls.specs.Refusals.{refusal_number}
 use Rattle.calls.specs.declared.Checked.{Checked}
 use Rattle.calls.specs.declared.Refusal.{Refusal}
 use Rattle.calls.specs.declared.Refusal.TheVariants.{OutputFull}
@@ -14,21 +14,21 @@ abbrev pub WrittenInside : TextAnswer → ℕ → Type 0
 WrittenInside (Written n) room = n ≤ room
 WrittenInside (Refused refusal) room = Unit {0}
 
-abbrev pub refusedLine : ℕ → List ℕ
-refusedLine number = codes "refused " ++ decimal number ++ codes "\n"
+abbrev pub refused_line : ℕ → List ℕ
+refused_line number = codes "refused " ++ decimal number ++ codes "\n"
 
-abbrev pub refusalLine : Refusal → List ℕ
-refusalLine refusal = refusedLine (refusalNumber refusal)
+abbrev pub refusal_line : Refusal → List ℕ
+refusal_line refusal = refused_line (refusal_number refusal)
 
 -- what is printed of an answer and of the output that the call wrote
-abbrev pub answerText : TextAnswer → List ℕ → List ℕ
-answerText (Written n) output = take n output
-answerText (Refused refusal) output = refusalLine refusal
+abbrev pub answer_text : TextAnswer → List ℕ → List ℕ
+answer_text (Written n) output = take n output
+answer_text (Refused refusal) output = refusal_line refusal
 
 -- what is printed of a text, for an output of so many bytes
-abbrev pub textPrinted : List ℕ → ℕ → List ℕ
-textPrinted text room = cond (ltb room (length text)) (refusalLine (OutputFull (length text))) text
+abbrev pub text_printed : List ℕ → ℕ → List ℕ
+text_printed text room = cond (ltb room (length text)) (refusal_line (OutputFull (length text))) text
 
 -- the same of a call whose text depends on the settings
-unfoldable pub callPrinted : (Settings → List ℕ) → ℕ → Checked → List ℕ
-callPrinted text room = acceptedOr (λ settings. textPrinted (text settings) room) refusalLine
+unfoldable pub call_printed : (Settings → List ℕ) → ℕ → Checked → List ℕ
+call_printed text room = accepted_or (λ settings. text_printed (text settings) room) refusal_line

@@ -5,7 +5,7 @@
 ghost use Rattle.std.specs.Prelude.{◌≡◌, ◌<◌, ◌++◌, IfSome, IfOk, OnOk, length, take, codes, decimal};
 ghost use Rattle.std.specs.Io.{ReadsAtMost};
 ghost use Rattle.std.specs.Io.KnownBytes.{Appends, Consumes, IsAtEnd};
-ghost use Rattle.console.specs.Printed.{WrittenInside, answerText, refusedLine, refusalLine};
+ghost use Rattle.console.specs.Printed.{WrittenInside, answer_text, refused_line, refusal_line};
 
 use calls::{Refusal, TextAnswer, refusal_number};
 use std::io;
@@ -57,13 +57,13 @@ pub fn print_next<W: Write>(output: &mut W, n: u64) -> io::Result<()>
 
 // A refusal by its number.
 pub fn print_refused<W: Write>(output: &mut W, number: u64) -> io::Result<()>
-    ensures { OnOk result (Appends (W.contents output.old) (W.contents output.new) (refusedLine number)) }
+    ensures { OnOk result (Appends (W.contents output.old) (W.contents output.new) (refused_line number)) }
 {
     writeln!(output, "refused {number}")
 }
 
 pub fn print_refusal<W: Write>(output: &mut W, refusal: Refusal) -> io::Result<()>
-    ensures { OnOk result (Appends (W.contents output.old) (W.contents output.new) (refusalLine refusal)) }
+    ensures { OnOk result (Appends (W.contents output.old) (W.contents output.new) (refusal_line refusal)) }
 {
     print_refused(output, refusal_number(refusal))
 }
@@ -71,7 +71,7 @@ pub fn print_refusal<W: Write>(output: &mut W, refusal: Refusal) -> io::Result<(
 // The text that a call wrote and nothing else, or its refusal.
 pub fn print_answer<W: Write>(output: &mut W, answer: TextAnswer, text: &[u8]) -> io::Result<()>
     requires { WrittenInside answer (length text.now) }
-    ensures { OnOk result (Appends (W.contents output.old) (W.contents output.new) (answerText answer text.now)) }
+    ensures { OnOk result (Appends (W.contents output.old) (W.contents output.new) (answer_text answer text.now)) }
 {
     match answer {
         TextAnswer::Written(count) => {

@@ -12,57 +12,57 @@ use Rattle.calls.specs.declared.Checked.TheVariants.{Accepted, Refused}
 use Rattle.calls.specs.declared.Refusal.{Refusal}
 use Rattle.calls.specs.declared.Refusal.TheVariants.{Overlong, NotUtf8, Setting, TableFull, Sheet, OutputFull, PartsFull}
 use Rattle.calls.specs.declared.Settings.{Settings}
-use Rattle.calls.specs.Checks.{checked, acceptedOr, toldNumber}
-use Rattle.calls.specs.Refusals.{refusalNumber}
-use Rattle.calls.specs.Settings.{dialectOf, settingsOf}
+use Rattle.calls.specs.Checks.{checked, accepted_or, told_number}
+use Rattle.calls.specs.Refusals.{refusal_number}
+use Rattle.calls.specs.Settings.{dialect_of, settings_of}
 use Rattle.calls.proofs.Checks.{accepts}
 use Rattle.calls.proofs.Storing.{back}
-use Rattle.console.specs.Printed.{refusedLine, refusalLine}
-use Rattle.console.proofs.Whole.{accepted-whole}
-use Rattle.script.specs.Answers.{roomChecked, cutChecked, cutNumber, cutDetail, cutPlaces}
+use Rattle.console.specs.Printed.{refused_line, refusal_line}
+use Rattle.console.proofs.Whole.{accepted_whole}
+use Rattle.script.specs.Answers.{room_checked, cut_checked, cut_number, cut_detail, cut_places}
 use Rattle.script.specs.Parts.{parts}
-use Rattle.script.specs.Places.{placesOf}
-use Rattle.script.specs.Settings.{cutterSettings}
-use Rattle.script.proofs.PartWalk.{parts-short}
+use Rattle.script.specs.Places.{places_of}
+use Rattle.script.specs.Settings.{cutter_settings}
+use Rattle.script.proofs.PartWalk.{parts_short}
 use Rattle.tokenizer.specs.Tokens.{tokens}
-use Rattle.cutting.specs.Printed.{partsPrinted, cuttingPrinted}
+use Rattle.cutting.specs.Printed.{parts_printed, cutting_printed}
 
-refusal-some : (refusal : Refusal) → 1 ≤ refusalNumber refusal
-refusal-some (Overlong n) = omega arith
-refusal-some (NotUtf8 n) = omega arith
-refusal-some Setting = omega arith
-refusal-some (TableFull n) = omega arith
-refusal-some Sheet = omega arith
-refusal-some (OutputFull n) = omega arith
-refusal-some (PartsFull n) = omega arith
+refusal_some : (refusal : Refusal) → 1 ≤ refusal_number refusal
+refusal_some (Overlong n) = omega arith
+refusal_some (NotUtf8 n) = omega arith
+refusal_some Setting = omega arith
+refusal_some (TableFull n) = omega arith
+refusal_some Sheet = omega arith
+refusal_some (OutputFull n) = omega arith
+refusal_some (PartsFull n) = omega arith
 
-cutter-is : settingsOf 0 0 0 ≡ cutterSettings
-unfolding settingsOf dialectOf
-cutter-is = refl
+cutter_is : settings_of 0 0 0 ≡ cutter_settings
+unfolding settings_of dialect_of
+cutter_is = refl
 
 module _ (s places : List ℕ) (room : 524288 ≤ length places) where
   -- with a place for each byte of the longest script they are never full
-  roomy : cutChecked s (length places) ≡ checked 0 0 0 s
-  unfolding cutChecked roomChecked
+  roomy : cut_checked s (length places) ≡ checked 0 0 0 s
+  unfolding cut_checked room_checked
   roomy = go (checked 0 0 0 s) refl
     where
-      go : (c : Checked) → checked 0 0 0 s ≡ c → acceptedOr (λ (settings : Settings). roomChecked s (length places)) Refused c ≡ c
+      go : (c : Checked) → checked 0 0 0 s ≡ c → accepted_or (λ (settings : Settings). room_checked s (length places)) Refused c ≡ c
       go (Accepted settings) e =
           let a = accepts 0 0 0 settings s e in
-          rw (le-ltb (length places / 8) (length (parts s)) (omega (arith, a.short, parts-short s, room))) (ap Accepted (sym cutter-is ∙ a.is))
+          rw (le-ltb (length places / 8) (length (parts s)) (omega (arith, a.short, parts_short s, room))) (ap Accepted (sym cutter_is ∙ a.is))
       go (Refused refusal) e = refl
 
-  module _ (number : ℕ) (e : number ≡ cutNumber (cutChecked s (length places))) where
-    told : number ≡ toldNumber (checked 0 0 0 s)
-    told = e ∙ ap toldNumber roomy
+  module _ (number : ℕ) (e : number ≡ cut_number (cut_checked s (length places))) where
+    told : number ≡ told_number (checked 0 0 0 s)
+    told = e ∙ ap told_number roomy
 
-    pub refused-printed : (number ≡ 0 → ⊥) → refusedLine number ≡ cuttingPrinted s
-    unfolding cuttingPrinted
-    refused-printed d = go (checked 0 0 0 s) told
+    pub refused_printed : (number ≡ 0 → ⊥) → refused_line number ≡ cutting_printed s
+    unfolding cutting_printed
+    refused_printed d = go (checked 0 0 0 s) told
       where
-        go : (c : Checked) → number ≡ toldNumber c → refusedLine number ≡ acceptedOr (λ (settings : Settings). partsPrinted s (parts s)) refusalLine c
+        go : (c : Checked) → number ≡ told_number c → refused_line number ≡ accepted_or (λ (settings : Settings). parts_printed s (parts s)) refusal_line c
         go (Accepted settings) f = absurd (d f)
-        go (Refused refusal) f = ap refusedLine f
+        go (Refused refusal) f = ap refused_line f
 
     module _ (z : number ≡ 0) where
       record Taken : Type 0 where
@@ -72,33 +72,33 @@ module _ (s places : List ℕ) (room : 524288 ≤ length places) where
       taken : Taken
       taken = go (checked 0 0 0 s) refl told
         where
-          go : (c : Checked) → checked 0 0 0 s ≡ c → number ≡ toldNumber c → Taken
+          go : (c : Checked) → checked 0 0 0 s ≡ c → number ≡ told_number c → Taken
           go (Accepted settings) g f = record { settings = settings; is = g }
-          go (Refused refusal) g f = absurd (let k = refusal-some refusal in let w : ⊥ = omega (arith, z, f) in w)
+          go (Refused refusal) g f = absurd (let k = refusal_some refusal in let w : ⊥ = omega (arith, z, f) in w)
 
-      cut-is : cutChecked s (length places) ≡ Accepted taken.settings
-      cut-is = roomy ∙ taken.is
+      cut_is : cut_checked s (length places) ≡ Accepted taken.settings
+      cut_is = roomy ∙ taken.is
 
-      pub script-short : length s ≤ 65536
-      script-short = (accepts 0 0 0 taken.settings s taken.is).short
+      pub script_short : length s ≤ 65536
+      script_short = (accepts 0 0 0 taken.settings s taken.is).short
 
-      pub places-held : (after : List ℕ) → after ≡ cutPlaces s places (cutChecked s (length places)) → take (length (placesOf (parts s))) after ≡ placesOf (parts s)
-      places-held after f =
-          let held : after ≡ placesOf (parts s) ++ drop (length (placesOf (parts s))) places = rw cut-is at f in
-          rw held (take-append_seam (placesOf (parts s)) (drop (length (placesOf (parts s))) places))
+      pub places_held : (after : List ℕ) → after ≡ cut_places s places (cut_checked s (length places)) → take (length (places_of (parts s))) after ≡ places_of (parts s)
+      places_held after f =
+          let held : after ≡ places_of (parts s) ++ drop (length (places_of (parts s))) places = rw cut_is at f in
+          rw held (take-append_seam (places_of (parts s)) (drop (length (places_of (parts s))) places))
 
-      pub count-held : (detail : ℕ) → detail ≡ cutDetail s (cutChecked s (length places)) → detail ≡ length (parts s)
-      count-held detail f = rw cut-is at f
+      pub count_held : (detail : ℕ) → detail ≡ cut_detail s (cut_checked s (length places)) → detail ≡ length (parts s)
+      count_held detail f = rw cut_is at f
 
-      pub parts-printed : partsPrinted s (parts s) ≡ cuttingPrinted s
-      unfolding cuttingPrinted
-      parts-printed = rw taken.is refl
+      pub parts_printed_lem : parts_printed s (parts s) ≡ cutting_printed s
+      unfolding cutting_printed
+      parts_printed_lem = rw taken.is refl
 
-pub script-whole : (s : List ℕ) → cuttingPrinted (take 65537 s) ≡ cuttingPrinted s
-unfolding cuttingPrinted
-script-whole s = accepted-whole (λ front settings. partsPrinted front (parts front)) 0 0 0 s
+pub script_whole : (s : List ℕ) → cutting_printed (take 65537 s) ≡ cutting_printed s
+unfolding cutting_printed
+script_whole s = accepted_whole (λ front settings. parts_printed front (parts front)) 0 0 0 s
 
 -- the tokens of a part of the text that is handed on
-pub part-read : (s : List ℕ) (start len : ℕ) (settings : Settings) → settings ≡ cutterSettings
-    → tokens settings (take (start + len - start) (drop start s)) ≡ tokens cutterSettings (take len (drop start s))
-part-read s start len settings e = rw (e, back)
+pub part_read : (s : List ℕ) (start len : ℕ) (settings : Settings) → settings ≡ cutter_settings
+    → tokens settings (take (start + len - start) (drop start s)) ≡ tokens cutter_settings (take len (drop start s))
+part_read s start len settings e = rw (e, back)

@@ -7,8 +7,8 @@
 ghost use Rattle.std.specs.Prelude.{◌≡◌, ◌+◌, ◌≤◌, IfSome, OnOk, length, take};
 ghost use Rattle.std.specs.Io.KnownBytes.{Appends};
 ghost use Rattle.script.specs.Parts.{parts};
-ghost use Rattle.script.specs.Places.{placesOf};
-ghost use Rattle.cutting.specs.Printed.{placeLine, partPrinted, partsPrinted, cuttingPrinted};
+ghost use Rattle.script.specs.Places.{places_of};
+ghost use Rattle.cutting.specs.Printed.{place_line, part_printed, parts_printed, cutting_printed};
 
 use calls::le32_at;
 use console::{print, print_next, print_number, print_refused, read_text, text_space};
@@ -25,7 +25,7 @@ fn place_space() -> [u8; 524288]
 }
 
 fn print_place<W: Write>(output: &mut W, start: usize, len: usize) -> io::Result<()>
-    ensures { OnOk result (Appends (W.contents output.old) (W.contents output.new) (placeLine (record { start = start; len = len }))) }
+    ensures { OnOk result (Appends (W.contents output.old) (W.contents output.new) (place_line (record { start = start; len = len }))) }
 {
     print_number(output, start as u64)?;
     print_next(output, len as u64)?;
@@ -34,7 +34,7 @@ fn print_place<W: Write>(output: &mut W, start: usize, len: usize) -> io::Result
 
 fn print_part<W: Write>(output: &mut W, script: &[u8], start: usize, len: usize) -> io::Result<()>
     requires { start + len ≤ length script.now }
-    ensures { OnOk result (Appends (W.contents output.old) (W.contents output.new) (partPrinted script.now (record { start = start; len = len }))) }
+    ensures { OnOk result (Appends (W.contents output.old) (W.contents output.new) (part_printed script.now (record { start = start; len = len }))) }
 {
     print_place(output, start, len)?;
     let end = start + len;
@@ -49,9 +49,9 @@ fn print_parts<W: Write>(
     count: usize,
 ) -> io::Result<()>
     requires script_len_bound { length script.now ≤ 65536 }
-    requires places_value { take (length (placesOf (parts script.now))) places.now ≡ placesOf (parts script.now) }
+    requires places_value { take (length (places_of (parts script.now))) places.now ≡ places_of (parts script.now) }
     requires count_value { count ≡ length (parts script.now) }
-    ensures { OnOk result (Appends (W.contents output.old) (W.contents output.new) (partsPrinted script.now (parts script.now))) }
+    ensures { OnOk result (Appends (W.contents output.old) (W.contents output.new) (parts_printed script.now (parts script.now))) }
 {
     for i in 0..count {
         let at = i * 8;
@@ -64,7 +64,7 @@ fn print_parts<W: Write>(
 
 fn print_cut<W: Write>(output: &mut W, script: &[u8], places: &mut [u8]) -> io::Result<()>
     requires { 524288 ≤ length places.old }
-    ensures { OnOk result (Appends (W.contents output.old) (W.contents output.new) (cuttingPrinted script.now)) }
+    ensures { OnOk result (Appends (W.contents output.old) (W.contents output.new) (cutting_printed script.now)) }
 {
     let mut number = 0;
     let mut detail = 0;
@@ -77,7 +77,7 @@ fn print_cut<W: Write>(output: &mut W, script: &[u8], places: &mut [u8]) -> io::
 
 // Of a longer script than a call accepts enough is read that it is refused as the whole is.
 fn answer<R: Read, W: Write>(input: &mut R, output: &mut W) -> io::Result<()>
-    ensures { OnOk result (IfSome (R.remaining input.old) (λ script. Appends (W.contents output.old) (W.contents output.new) (cuttingPrinted script))) }
+    ensures { OnOk result (IfSome (R.remaining input.old) (λ script. Appends (W.contents output.old) (W.contents output.new) (cutting_printed script))) }
 {
     let mut space = text_space();
     let mut places = place_space();

@@ -11,8 +11,8 @@
 ghost use Rattle.std.specs.Prelude.{◌≡◌, ◌≤◌, ◌<◌, Some, IfSome, IfOk, OnOk, length, take, min};
 ghost use Rattle.std.specs.Io.{ReadsAtMost};
 ghost use Rattle.std.specs.Io.KnownBytes.{Appends, Consumes, IsAtEnd};
-ghost use Rattle.filling.specs.Input.{Skips, sheetOf, statementOf};
-ghost use Rattle.filling.specs.Printed.{fillPrinted};
+ghost use Rattle.filling.specs.Input.{Skips, sheet_of, statement_of};
+ghost use Rattle.filling.specs.Printed.{fill_printed};
 
 use calls::le32_at;
 use console::{print_answer, read_text, text_space};
@@ -26,7 +26,7 @@ fn print_filled<W: Write>(
     sheet: &[u8],
     space: &mut [u8],
 ) -> io::Result<()>
-    ensures { OnOk result (Appends (W.contents output.old) (W.contents output.new) (fillPrinted statement.now sheet.now (length space.old))) }
+    ensures { OnOk result (Appends (W.contents output.old) (W.contents output.new) (fill_printed statement.now sheet.now (length space.old))) }
 {
     let answer = fill(statement, 0, 0, 0, sheet, space);
     print_answer(output, answer, space)
@@ -79,8 +79,8 @@ fn read_past<R: Read>(input: &mut R, count: usize) -> io::Result<()>
 // Reads the sheet's length and the whole sheet, and answers how many bytes of it are kept.
 fn read_sheet<R: Read>(input: &mut R, kept: &mut [u8]) -> io::Result<usize>
     ensures prefix_len { ReadsAtMost result kept.new }
-    ensures sheet { 4 ≤ length kept.new → IfOk result (λ n. IfSome (R.remaining input.old) (λ xs. take n kept.new ≡ take (length kept.new) (sheetOf xs))) }
-    ensures statement { 4 ≤ length kept.new → OnOk result (IfSome (R.remaining input.old) (λ xs. R.remaining input.new ≡ Some (statementOf xs))) }
+    ensures sheet { 4 ≤ length kept.new → IfOk result (λ n. IfSome (R.remaining input.old) (λ xs. take n kept.new ≡ take (length kept.new) (sheet_of xs))) }
+    ensures statement { 4 ≤ length kept.new → OnOk result (IfSome (R.remaining input.old) (λ xs. R.remaining input.new ≡ Some (statement_of xs))) }
 {
     let n = read_up_to(input, 4, kept)?;
     if n < 4 {
@@ -100,7 +100,7 @@ fn output_space() -> [u8; 131072]
 
 fn answer<R: Read, W: Write>(input: &mut R, output: &mut W) -> io::Result<()>
     ensures { OnOk result (IfSome (R.remaining input.old) (λ whole.
-        Appends (W.contents output.old) (W.contents output.new) (fillPrinted (statementOf whole) (sheetOf whole) 131072))) }
+        Appends (W.contents output.old) (W.contents output.new) (fill_printed (statement_of whole) (sheet_of whole) 131072))) }
 {
     let mut sheet = text_space();
     let mut statement = text_space();

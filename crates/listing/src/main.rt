@@ -4,7 +4,7 @@
 
 ghost use Rattle.std.specs.Prelude.{IfSome, OnOk};
 ghost use Rattle.std.specs.Io.KnownBytes.{Appends};
-ghost use Rattle.listing.specs.Printed.{listingPrinted};
+ghost use Rattle.listing.specs.Printed.{listing_printed};
 
 use calls::{Checked, check};
 use console::{print_refusal, read_text, text_space};
@@ -13,7 +13,7 @@ use std::io::{BufWriter, Read, Write};
 use token_lines::print_list;
 
 fn print_listing<W: Write>(output: &mut W, statement: &[u8]) -> io::Result<()>
-    ensures { OnOk result (Appends (W.contents output.old) (W.contents output.new) (listingPrinted statement.now)) }
+    ensures { OnOk result (Appends (W.contents output.old) (W.contents output.new) (listing_printed statement.now)) }
 {
     match check(statement, 0, 0, 0) {
         Checked::Accepted(settings) => print_list(output, statement, settings),
@@ -23,7 +23,7 @@ fn print_listing<W: Write>(output: &mut W, statement: &[u8]) -> io::Result<()>
 
 // Of a longer statement than a call accepts enough is read that it is refused as the whole is.
 fn answer<R: Read, W: Write>(input: &mut R, output: &mut W) -> io::Result<()>
-    ensures { OnOk result (IfSome (R.remaining input.old) (λ statement. Appends (W.contents output.old) (W.contents output.new) (listingPrinted statement))) }
+    ensures { OnOk result (IfSome (R.remaining input.old) (λ statement. Appends (W.contents output.old) (W.contents output.new) (listing_printed statement))) }
 {
     let mut space = text_space();
     let n = read_text(input, &mut space)?;

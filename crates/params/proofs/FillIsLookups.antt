@@ -11,59 +11,59 @@ use Rattle.calls.specs.declared.Checked.TheVariants.{Accepted}
 use Rattle.calls.specs.declared.Settings.{Settings}
 use Rattle.tokenizer.specs.declared.Token.{Token}
 use Rattle.tokenizer.specs.Tokens.{tokens}
-use Rattle.calls.specs.Texts.{textAnswer, textAfter, callAnswer, callOutput}
+use Rattle.calls.specs.Texts.{text_answer, text_after, call_answer, call_output}
 use Rattle.params.specs.declared.Found.{Found}
-use Rattle.params.specs.Get.{ownText}
-use Rattle.params.specs.Filled.{isPlaceholder, standsFor, indexAfter, partBytes, filledFrom, filled}
-use Rattle.params.specs.Answers.{checkedWith, foundFor, foundFirst, foundAt, lookupFound, lookupBytes, lookupCounter, fillAnswer, fillOutput}
+use Rattle.params.specs.Get.{own_text}
+use Rattle.params.specs.Filled.{is_placeholder, stands_for, index_after, part_bytes, filled_from, filled}
+use Rattle.params.specs.Answers.{checked_with, found_for, found_first, found_at, lookup_found, lookup_bytes, lookup_counter, fill_answer, fill_output}
 
 -- the bytes of so many lookups, from a place and a counter on, laid end to end
 unfoldable pub lookups : List ℕ → ℕ → ℕ → ℕ → List ℕ → ℕ → ℕ → ℕ → List ℕ
 lookups s dialect joins named sheet zero place counter = []
 lookups s dialect joins named sheet (suc n) place counter =
-    lookupBytes s dialect joins named sheet place counter
-    ++ lookups s dialect joins named sheet n (suc place) (lookupCounter s dialect joins named sheet place counter)
+    lookup_bytes s dialect joins named sheet place counter
+    ++ lookups s dialect joins named sheet n (suc place) (lookup_counter s dialect joins named sheet place counter)
 
-module _ (s : List ℕ) (dialect joins named : ℕ) (sheet : List ℕ) (settings : Settings) (e : checkedWith s dialect joins named sheet ≡ Accepted settings) where
+module _ (s : List ℕ) (dialect joins named : ℕ) (sheet : List ℕ) (settings : Settings) (e : checked_with s dialect joins named sheet ≡ Accepted settings) where
   -- a lookup is what stands for the token there
   there : (place counter : ℕ) (t : Token) (ts : List Token) → drop place (tokens settings s) ≡ t ∷ ts
-      → lookupFound s dialect joins named sheet place counter ≡ foundFor s sheet counter t
-  unfolding lookupFound foundAt foundFirst
+      → lookup_found s dialect joins named sheet place counter ≡ found_for s sheet counter t
+  unfolding lookup_found found_at found_first
   there place counter t ts f =
-      (let z : lookupFound s dialect joins named sheet place counter ≡ foundAt settings s sheet place counter = rw e in z)
-      ∙ ap (foundFirst s sheet counter) f
+      (let z : lookup_found s dialect joins named sheet place counter ≡ found_at settings s sheet place counter = rw e in z)
+      ∙ ap (found_first s sheet counter) f
 
   behind : (place : ℕ) (t : Token) (ts : List Token) → drop place (tokens settings s) ≡ t ∷ ts → drop (suc place) (tokens settings s) ≡ ts
   behind place t ts f = rw (← add-one place) (sym (drop-drop 1 place (tokens settings s)) ∙ ap (drop 1) f)
 
-  from-place : (ts : List Token) (place counter : ℕ) → drop place (tokens settings s) ≡ ts
-      → filledFrom s sheet counter ts ≡ lookups s dialect joins named sheet (length ts) place counter
-  unfolding filledFrom lookups
-  from-place [] place counter f = refl
-  from-place (t ∷ ts) place counter f =
+  from_place : (ts : List Token) (place counter : ℕ) → drop place (tokens settings s) ≡ ts
+      → filled_from s sheet counter ts ≡ lookups s dialect joins named sheet (length ts) place counter
+  unfolding filled_from lookups
+  from_place [] place counter f = refl
+  from_place (t ∷ ts) place counter f =
       let found = there place counter t ts f in
-      ap (λ (l : List ℕ). partBytes s sheet (standsFor s sheet counter t) ++ l) (from-place ts (suc place) (indexAfter s sheet counter t) (behind place t ts f))
-      ∙ ap (λ (q : Found). partBytes s sheet q.part ++ lookups s dialect joins named sheet (length ts) (suc place) q.counter) (sym found)
+      ap (λ (l : List ℕ). part_bytes s sheet (stands_for s sheet counter t) ++ l) (from_place ts (suc place) (index_after s sheet counter t) (behind place t ts f))
+      ∙ ap (λ (q : Found). part_bytes s sheet q.part ++ lookups s dialect joins named sheet (length ts) (suc place) q.counter) (sym found)
 
-  pub fill-is-lookups : filled settings s sheet ≡ lookups s dialect joins named sheet (length (tokens settings s)) 0 0
+  pub fill_is_lookups : filled settings s sheet ≡ lookups s dialect joins named sheet (length (tokens settings s)) 0 0
   unfolding filled
-  fill-is-lookups = from-place (tokens settings s) 0 0 refl
+  fill_is_lookups = from_place (tokens settings s) 0 0 refl
 
   -- so fill tells and writes their bytes
-  pub fill-tells-lookups : (room : ℕ) → fillAnswer s dialect joins named sheet room ≡ textAnswer (lookups s dialect joins named sheet (length (tokens settings s)) 0 0) room
-  unfolding callAnswer
-  fill-tells-lookups room =
-      (let z : fillAnswer s dialect joins named sheet room ≡ textAnswer (filled settings s sheet) room = rw e in z)
-      ∙ ap (λ (text : List ℕ). textAnswer text room) fill-is-lookups
+  pub fill_tells_lookups : (room : ℕ) → fill_answer s dialect joins named sheet room ≡ text_answer (lookups s dialect joins named sheet (length (tokens settings s)) 0 0) room
+  unfolding call_answer
+  fill_tells_lookups room =
+      (let z : fill_answer s dialect joins named sheet room ≡ text_answer (filled settings s sheet) room = rw e in z)
+      ∙ ap (λ (text : List ℕ). text_answer text room) fill_is_lookups
 
-  pub fill-writes-lookups : (output : List ℕ) → fillOutput s dialect joins named sheet output ≡ textAfter (lookups s dialect joins named sheet (length (tokens settings s)) 0 0) output
-  unfolding callOutput
-  fill-writes-lookups output =
-      (let z : fillOutput s dialect joins named sheet output ≡ textAfter (filled settings s sheet) output = rw e in z)
-      ∙ ap (λ (text : List ℕ). textAfter text output) fill-is-lookups
+  pub fill_writes_lookups : (output : List ℕ) → fill_output s dialect joins named sheet output ≡ text_after (lookups s dialect joins named sheet (length (tokens settings s)) 0 0) output
+  unfolding call_output
+  fill_writes_lookups output =
+      (let z : fill_output s dialect joins named sheet output ≡ text_after (filled settings s sheet) output = rw e in z)
+      ∙ ap (λ (text : List ℕ). text_after text output) fill_is_lookups
 
   -- a token that is no Placeholder keeps its text and the counter
-  pub other-kept : (place counter : ℕ) (t : Token) (ts : List Token) → drop place (tokens settings s) ≡ t ∷ ts → isPlaceholder t ≡ false
-      → lookupFound s dialect joins named sheet place counter ≡ record { part = ownText t; counter = counter }
-  unfolding standsFor indexAfter
-  other-kept place counter t ts f g = there place counter t ts f ∙ rw g
+  pub other_kept : (place counter : ℕ) (t : Token) (ts : List Token) → drop place (tokens settings s) ≡ t ∷ ts → is_placeholder t ≡ false
+      → lookup_found s dialect joins named sheet place counter ≡ record { part = own_text t; counter = counter }
+  unfolding stands_for index_after
+  other_kept place counter t ts f g = there place counter t ts f ∙ rw g

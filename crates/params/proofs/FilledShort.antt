@@ -13,68 +13,68 @@ use mir.Syntax.{w64}
 use mir.Val.{Fits}
 use Rattle.calls.specs.declared.Settings.{Settings}
 use Rattle.calls.specs.declared.TextAnswer.TheVariants.{Written}
-use Rattle.calls.specs.Texts.{textAnswer, textAfter}
-use Rattle.calls.proofs.TextCalls.{most-room, most-answer, most-output}
+use Rattle.calls.specs.Texts.{text_answer, text_after}
+use Rattle.calls.proofs.TextCalls.{most_room, most_answer, most_output}
 use Rattle.tokenizer.specs.declared.Token.{Token}
-use Rattle.tokenizer.proofs.Walks.{text-by-bytes}
-use Rattle.params.specs.Sheet.{countOf, isSheet}
-use Rattle.params.specs.Get.{taken, valuePart, valueOr, get}
-use Rattle.params.specs.Filled.{isPlaceholder, standsFor, partBytes, partLength, filled}
-use Rattle.params.specs.Inner.Longest.{longestValue, mostFilled}
-use Rattle.params.proofs.FillWalk.{fillWalk, stands-long}
-use Rattle.params.proofs.LongestValues.{longest-some, longest-small, value-short}
+use Rattle.tokenizer.proofs.Walks.{text_by_bytes}
+use Rattle.params.specs.Sheet.{count_of, is_sheet}
+use Rattle.params.specs.Get.{taken, value_part, value_or, get}
+use Rattle.params.specs.Filled.{is_placeholder, stands_for, part_bytes, part_length, filled}
+use Rattle.params.specs.Inner.Longest.{longest_value, most_filled}
+use Rattle.params.proofs.FillWalk.{fill_walk, stands_long}
+use Rattle.params.proofs.LongestValues.{longest_some, longest_small, value_short}
 
 module _ (s sheet : List ℕ) where
   -- ---- what stands for a token
 
   -- a value, or the token itself
-  value-or-short : (n : ℕ) (t : Token) → 1 ≤ t.len → partLength (valueOr sheet n t) ≤ t.len * longestValue sheet
-  unfolding valueOr valuePart
-  value-or-short n t h = go (ltb n (countOf sheet)) refl
+  value_or_short : (n : ℕ) (t : Token) → 1 ≤ t.len → part_length (value_or sheet n t) ≤ t.len * longest_value sheet
+  unfolding value_or value_part
+  value_or_short n t h = go (ltb n (count_of sheet)) refl
     where
-      go : (b : Bool) → ltb n (countOf sheet) ≡ b → partLength (valueOr sheet n t) ≤ t.len * longestValue sheet
-      go true e = rw e (le_trans (value-short sheet n (ltb-true n (countOf sheet) e)) (rw one-mul at (mul-le-mul_right (longestValue sheet) h)))
-      go false e = rw e (rw mul-one at (mul-le-mul_left t.len (longest-some sheet)))
+      go : (b : Bool) → ltb n (count_of sheet) ≡ b → part_length (value_or sheet n t) ≤ t.len * longest_value sheet
+      go true e = rw e (le_trans (value_short sheet n (ltb-true n (count_of sheet) e)) (rw one-mul at (mul-le-mul_right (longest_value sheet) h)))
+      go false e = rw e (rw mul-one at (mul-le-mul_left t.len (longest_some sheet)))
 
-  stands-short : (index : ℕ) (t : Token) → 1 ≤ t.len → partLength (standsFor s sheet index t) ≤ t.len * longestValue sheet
-  unfolding standsFor get
-  stands-short index t h = go (isPlaceholder t) refl
+  stands_short : (index : ℕ) (t : Token) → 1 ≤ t.len → part_length (stands_for s sheet index t) ≤ t.len * longest_value sheet
+  unfolding stands_for get
+  stands_short index t h = go (is_placeholder t) refl
     where
-      go : (b : Bool) → isPlaceholder t ≡ b → partLength (standsFor s sheet index t) ≤ t.len * longestValue sheet
-      go true e = rw e (value-or-short (taken s sheet index t.key) t h)
-      go false e = rw e (rw mul-one at (mul-le-mul_left t.len (longest-some sheet)))
+      go : (b : Bool) → is_placeholder t ≡ b → part_length (stands_for s sheet index t) ≤ t.len * longest_value sheet
+      go true e = rw e (value_or_short (taken s sheet index t.key) t h)
+      go false e = rw e (rw mul-one at (mul-le-mul_left t.len (longest_some sheet)))
 
   -- ---- the whole text
 
-  module _ (good : isSheet sheet ≡ true) where
-    pub filled-short : (settings : Settings) → length (filled settings s sheet) ≤ mostFilled s sheet
-    unfolding filled mostFilled
-    filled-short settings = text-by-bytes (fillWalk s sheet) settings s (longestValue sheet) each 0
+  module _ (good : is_sheet sheet ≡ true) where
+    pub filled_short : (settings : Settings) → length (filled settings s sheet) ≤ most_filled s sheet
+    unfolding filled most_filled
+    filled_short settings = text_by_bytes (fill_walk s sheet) settings s (longest_value sheet) each 0
       where
-        each : (index : ℕ) (t : Token) → 1 ≤ t.len → t.start + t.len ≤ length s → length (partBytes s sheet (standsFor s sheet index t)) ≤ t.len * longestValue sheet
-        each index t h k = rw (← stands-long s sheet index t (partLength (standsFor s sheet index t)) good k refl) (stands-short index t h)
+        each : (index : ℕ) (t : Token) → 1 ≤ t.len → t.start + t.len ≤ length s → length (part_bytes s sheet (stands_for s sheet index t)) ≤ t.len * longest_value sheet
+        each index t h k = rw (← stands_long s sheet index t (part_length (stands_for s sheet index t)) good k refl) (stands_short index t h)
 
-    pub most-fits : (n : ℕ) → length s ≤ 65536 → n ≡ longestValue sheet → Fits w64 (length s * n)
-    most-fits n h e =
-        let m : n ≤ 65536 = rw e (longest-small sheet good) in
+    pub most_fits : (n : ℕ) → length s ≤ 65536 → n ≡ longest_value sheet → Fits w64 (length s * n)
+    most_fits n h e =
+        let m : n ≤ 65536 = rw e (longest_small sheet good) in
         let k : length s * n ≤ 65536 * 65536 = mul-le-mul h m in
         record { fits = omega arith }
 
-  pub most-is : (n : ℕ) → n ≡ longestValue sheet → length s * n ≡ mostFilled s sheet
-  unfolding mostFilled
-  most-is n e = rw e
+  pub most_is : (n : ℕ) → n ≡ longest_value sheet → length s * n ≡ most_filled s sheet
+  unfolding most_filled
+  most_is n e = rw e
 
   -- ---- with so much room
 
-  module _ (settings : Settings) (output : List ℕ) (good : isSheet sheet ≡ true) (most : ℕ) (e : most ≡ mostFilled s sheet) (f : most ≤ length output) where
+  module _ (settings : Settings) (output : List ℕ) (good : is_sheet sheet ≡ true) (most : ℕ) (e : most ≡ most_filled s sheet) (f : most ≤ length output) where
     short : length (filled settings s sheet) ≤ most
-    short = rw e (filled-short good settings)
+    short = rw e (filled_short good settings)
 
-    pub one-pass-room : length (filled settings s sheet) ≤ length output
-    one-pass-room = most-room (filled settings s sheet) output most short f
+    pub one_pass_room : length (filled settings s sheet) ≤ length output
+    one_pass_room = most_room (filled settings s sheet) output most short f
 
-    pub one-pass-answer : (n : ℕ) → n ≡ length (filled settings s sheet) → Written n ≡ textAnswer (filled settings s sheet) (length output)
-    one-pass-answer = most-answer (filled settings s sheet) output most short f
+    pub one_pass_answer : (n : ℕ) → n ≡ length (filled settings s sheet) → Written n ≡ text_answer (filled settings s sheet) (length output)
+    one_pass_answer = most_answer (filled settings s sheet) output most short f
 
-    pub one-pass-output : (after : List ℕ) → after ≡ filled settings s sheet ++ drop (length (filled settings s sheet)) output → after ≡ textAfter (filled settings s sheet) output
-    one-pass-output = most-output (filled settings s sheet) output most short f
+    pub one_pass_output : (after : List ℕ) → after ≡ filled settings s sheet ++ drop (length (filled settings s sheet)) output → after ≡ text_after (filled settings s sheet) output
+    one_pass_output = most_output (filled settings s sheet) output most short f

@@ -11,44 +11,44 @@ use lib.Dec.{ltb}
 use Rattle.recognisers.specs.declared.Key.{Key}
 use Rattle.recognisers.specs.declared.Key.TheVariants as K
 use Rattle.tokenizer.specs.declared.Token.{Token}
-use Rattle.tokenizer.specs.KeyText.{keyText}
+use Rattle.tokenizer.specs.KeyText.{key_text}
 use Rattle.params.specs.declared.Params.{Params}
 use Rattle.params.specs.declared.Part.{Part}
 use Rattle.params.specs.declared.Place.{Place}
 use Rattle.params.specs.declared.QueryParams.{QueryParams}
 use Rattle.params.specs.declared.QueryParams.TheVariants as Q
-use Rattle.params.specs.Sheet.{paramsOf, countOf, placeOf}
-use Rattle.params.specs.Keys.{hasKey, hasName, hasNoIndex}
-use Rattle.params.specs.Get.{withName, byName, byIndex, taken, ownText, valueOr, get, countedOn, indexFrom, indexPast}
-use Rattle.params.specs.Inner.Carried.{upTo, paramsAt}
-use Rattle.params.specs.Inner.Cases.{namedPart, indexedPart, indexedPast}
-use Rattle.params.specs.Filled.{isPlaceholder, standsFor, indexAfter}
-use Rattle.params.proofs.EntriesInside.{entry-of, turn-entry}
+use Rattle.params.specs.Sheet.{params_of, count_of, place_of}
+use Rattle.params.specs.Keys.{has_key, has_name, has_no_index}
+use Rattle.params.specs.Get.{with_name, by_name, by_index, taken, own_text, value_or, get, counted_on, index_from, index_past}
+use Rattle.params.specs.Inner.Carried.{up_to, params_at}
+use Rattle.params.specs.Inner.Cases.{named_part, indexed_part, indexed_past}
+use Rattle.params.specs.Filled.{is_placeholder, stands_for, index_after}
+use Rattle.params.proofs.EntriesInside.{entry_of, turn_entry}
 
 module _ (sheet : List ℕ) where
   -- no entry
-  none-taken : (t : Token) → ownText t ≡ valueOr sheet (countOf sheet) t
-  unfolding valueOr
-  none-taken t = let k : ltb (countOf sheet) (countOf sheet) ≡ false = le-ltb (countOf sheet) (countOf sheet) (le_refl (countOf sheet)) in rw k
+  none_taken : (t : Token) → own_text t ≡ value_or sheet (count_of sheet) t
+  unfolding value_or
+  none_taken t = let k : ltb (count_of sheet) (count_of sheet) ≡ false = le-ltb (count_of sheet) (count_of sheet) (le_refl (count_of sheet)) in rw k
 
   -- ---- the number that a key gives
 
   module _ (index n : ℕ) (key : Key) (e : key ≡ K.OneIndexed n) where
-    pub one-zero : (count : ℕ) → n ≡ 0 → count ≡ countOf sheet → count ≡ byIndex sheet index key
-    one-zero count f g = g ∙ rw (e, f)
+    pub one_zero : (count : ℕ) → n ≡ 0 → count ≡ count_of sheet → count ≡ by_index sheet index key
+    one_zero count f g = g ∙ rw (e, f)
 
-    pub one-some : (n ≡ 0 → ⊥) → n - 1 ≡ byIndex sheet index key
-    one-some f = rw (e, ne_eqb n 0 f)
+    pub one_some : (n ≡ 0 → ⊥) → n - 1 ≡ by_index sheet index key
+    one_some f = rw (e, ne_eqb n 0 f)
 
-  in-turn : (index : ℕ) (key : Key) → hasNoIndex key ≡ true → byIndex sheet index key ≡ index
-  in-turn index K.None e = refl
-  in-turn index (K.Named start len) e = refl
-  in-turn index (K.Escaped start len) e = refl
-  in-turn index (K.ZeroIndexed n) e = absurd (go e)
+  in_turn : (index : ℕ) (key : Key) → has_no_index key ≡ true → by_index sheet index key ≡ index
+  in_turn index K.None e = refl
+  in_turn index (K.Named start len) e = refl
+  in_turn index (K.Escaped start len) e = refl
+  in_turn index (K.ZeroIndexed n) e = absurd (go e)
     where
       go : false ≡ true → ⊥
       go f = let z : ◌≡◌ {A = ℕ} 0 1 = ap (λ (b : Bool). cond b 1 0) f in let w : ⊥ = omega arith in w
-  in-turn index (K.OneIndexed n) e = absurd (go e)
+  in_turn index (K.OneIndexed n) e = absurd (go e)
     where
       go : false ≡ true → ⊥
       go f = let z : ◌≡◌ {A = ℕ} 0 1 = ap (λ (b : Bool). cond b 1 0) f in let w : ⊥ = omega arith in w
@@ -56,98 +56,98 @@ module _ (sheet : List ℕ) where
   -- ---- what stands for a placeholder
 
   module _ (s : List ℕ) (t : Token) where
-    module _ (b : Bool) (e : b ≡ hasKey t.key) where
-      pub keyed : (p : Place) (r : Part) → b ≡ true → p ≡ placeOf sheet (withName sheet (keyText s t.key)) → r ≡ valueOr sheet p.entry t
-          → r ≡ namedPart s sheet t
-      unfolding byName
-      keyed p r f g h = h ∙ rw (← e, f, entry-of sheet p (withName sheet (keyText s t.key)) g)
+    module _ (b : Bool) (e : b ≡ has_key t.key) where
+      pub keyed : (p : Place) (r : Part) → b ≡ true → p ≡ place_of sheet (with_name sheet (key_text s t.key)) → r ≡ value_or sheet p.entry t
+          → r ≡ named_part s sheet t
+      unfolding by_name
+      keyed p r f g h = h ∙ rw (← e, f, entry_of sheet p (with_name sheet (key_text s t.key)) g)
 
-      pub keyless : (r : Part) → b ≡ false → r ≡ ownText t → r ≡ namedPart s sheet t
-      unfolding byName
-      keyless r f g = g ∙ none-taken t ∙ rw (← e, f)
+      pub keyless : (r : Part) → b ≡ false → r ≡ own_text t → r ≡ named_part s sheet t
+      unfolding by_name
+      keyless r f g = g ∙ none_taken t ∙ rw (← e, f)
 
-    module _ (index : ℕ) (b : Bool) (e : b ≡ hasName s t.key) where
-      pub name-kept : (r : Part) → b ≡ true → r ≡ ownText t → r ≡ indexedPart s sheet index t
-      name-kept r f g = g ∙ none-taken t ∙ rw (← e, f)
+    module _ (index : ℕ) (b : Bool) (e : b ≡ has_name s t.key) where
+      pub name_kept : (r : Part) → b ≡ true → r ≡ own_text t → r ≡ indexed_part s sheet index t
+      name_kept r f g = g ∙ none_taken t ∙ rw (← e, f)
 
-      pub numbered : (n : ℕ) (r : Part) → b ≡ false → n ≡ byIndex sheet index t.key → r ≡ valueOr sheet n t
-          → r ≡ indexedPart s sheet index t
+      pub numbered : (n : ℕ) (r : Part) → b ≡ false → n ≡ by_index sheet index t.key → r ≡ value_or sheet n t
+          → r ≡ indexed_part s sheet index t
       numbered n r f g h = h ∙ rw (← e, f, g)
 
-    module _ (params : Params) (at : params ≡ paramsAt sheet params.index) (b : Bool) (e : b ≡ hasName s t.key) (d : Bool) (g : d ≡ hasNoIndex t.key) where
-      up-to-value : valueOr sheet (upTo (countOf sheet) params.index) t ≡ valueOr sheet params.index t
-      unfolding upTo valueOr
-      up-to-value = go (ltb params.index (countOf sheet)) refl
+    module _ (params : Params) (at : params ≡ params_at sheet params.index) (b : Bool) (e : b ≡ has_name s t.key) (d : Bool) (g : d ≡ has_no_index t.key) where
+      up_to_value : value_or sheet (up_to (count_of sheet) params.index) t ≡ value_or sheet params.index t
+      unfolding up_to value_or
+      up_to_value = go (ltb params.index (count_of sheet)) refl
         where
-          go : (x : Bool) → ltb params.index (countOf sheet) ≡ x → valueOr sheet (upTo (countOf sheet) params.index) t ≡ valueOr sheet params.index t
-          go true f = ap (λ (n : ℕ). valueOr sheet n t) (let z : upTo (countOf sheet) params.index ≡ params.index = rw f in z)
+          go : (x : Bool) → ltb params.index (count_of sheet) ≡ x → value_or sheet (up_to (count_of sheet) params.index) t ≡ value_or sheet params.index t
+          go true f = ap (λ (n : ℕ). value_or sheet n t) (let z : up_to (count_of sheet) params.index ≡ params.index = rw f in z)
           go false f =
-              ap (λ (n : ℕ). valueOr sheet n t) (let z : upTo (countOf sheet) params.index ≡ countOf sheet = rw f in z)
-              ∙ sym (none-taken t)
-              ∙ (let z : ownText t ≡ valueOr sheet params.index t = rw f in z)
+              ap (λ (n : ℕ). value_or sheet n t) (let z : up_to (count_of sheet) params.index ≡ count_of sheet = rw f in z)
+              ∙ sym (none_taken t)
+              ∙ (let z : own_text t ≡ value_or sheet params.index t = rw f in z)
 
-      pub turn-taken : (r : Part) → b ≡ false → d ≡ true → r ≡ valueOr sheet params.next.entry t
-          → r ≡ indexedPart s sheet params.index t
-      turn-taken r f k h =
+      pub turn_taken : (r : Part) → b ≡ false → d ≡ true → r ≡ value_or sheet params.next.entry t
+          → r ≡ indexed_part s sheet params.index t
+      turn_taken r f k h =
           h
-          ∙ ap (λ (n : ℕ). valueOr sheet n t) (turn-entry sheet params at)
-          ∙ up-to-value
-          ∙ rw (← e, f, in-turn params.index t.key (sym g ∙ k))
+          ∙ ap (λ (n : ℕ). value_or sheet n t) (turn_entry sheet params at)
+          ∙ up_to_value
+          ∙ rw (← e, f, in_turn params.index t.key (sym g ∙ k))
 
-    module _ (index : ℕ) (q : QueryParams) (e : q ≡ paramsOf sheet) (r : Part) where
-      pub get-none : q ≡ Q.None → r ≡ ownText t → r ≡ get s sheet index t
+    module _ (index : ℕ) (q : QueryParams) (e : q ≡ params_of sheet) (r : Part) where
+      pub get_none : q ≡ Q.None → r ≡ own_text t → r ≡ get s sheet index t
       unfolding get taken
-      get-none f g = g ∙ none-taken t ∙ rw (← e, f)
+      get_none f g = g ∙ none_taken t ∙ rw (← e, f)
 
-      pub get-named : q ≡ Q.Named → r ≡ namedPart s sheet t → r ≡ get s sheet index t
+      pub get_named : q ≡ Q.Named → r ≡ named_part s sheet t → r ≡ get s sheet index t
       unfolding get taken
-      get-named f g = g ∙ rw (← e, f)
+      get_named f g = g ∙ rw (← e, f)
 
-      pub get-indexed : q ≡ Q.Indexed → r ≡ indexedPart s sheet index t → r ≡ get s sheet index t
+      pub get_indexed : q ≡ Q.Indexed → r ≡ indexed_part s sheet index t → r ≡ get s sheet index t
       unfolding get taken
-      get-indexed f g = g ∙ rw (← e, f)
+      get_indexed f g = g ∙ rw (← e, f)
 
-    module _ (index : ℕ) (b : Bool) (e : b ≡ isPlaceholder t) (r : Part) where
-      pub placeholder-stands : b ≡ true → r ≡ get s sheet index t → r ≡ standsFor s sheet index t
-      unfolding standsFor
-      placeholder-stands f g = g ∙ rw (← e, f)
+    module _ (index : ℕ) (b : Bool) (e : b ≡ is_placeholder t) (r : Part) where
+      pub placeholder_stands : b ≡ true → r ≡ get s sheet index t → r ≡ stands_for s sheet index t
+      unfolding stands_for
+      placeholder_stands f g = g ∙ rw (← e, f)
 
-      pub other-stands : b ≡ false → r ≡ ownText t → r ≡ standsFor s sheet index t
-      unfolding standsFor
-      other-stands f g = g ∙ rw (← e, f)
+      pub other_stands : b ≡ false → r ≡ own_text t → r ≡ stands_for s sheet index t
+      unfolding stands_for
+      other_stands f g = g ∙ rw (← e, f)
 
   -- ---- the counter past it
 
   module _ (s : List ℕ) (key : Key) (params : Params) where
-    module _ (b : Bool) (e : b ≡ hasName s key) where
-      pub name-past : b ≡ true → params ≡ paramsAt sheet params.index → params ≡ indexedPast s sheet params.index key
-      name-past f at = at ∙ ap (paramsAt sheet) (let z : params.index ≡ indexFrom Q.Indexed s params.index key = rw (← e, f) in z)
+    module _ (b : Bool) (e : b ≡ has_name s key) where
+      pub name_past : b ≡ true → params ≡ params_at sheet params.index → params ≡ indexed_past s sheet params.index key
+      name_past f at = at ∙ ap (params_at sheet) (let z : params.index ≡ index_from Q.Indexed s params.index key = rw (← e, f) in z)
 
-      module _ (d : Bool) (g : d ≡ hasNoIndex key) (f : b ≡ false) where
-        pub turn-past : (r : Params) → d ≡ true → r ≡ paramsAt sheet (countedOn params.index) → r ≡ indexedPast s sheet params.index key
-        turn-past r k h = h ∙ rw (← e, f, ← g, k)
+      module _ (d : Bool) (g : d ≡ has_no_index key) (f : b ≡ false) where
+        pub turn_past : (r : Params) → d ≡ true → r ≡ params_at sheet (counted_on params.index) → r ≡ indexed_past s sheet params.index key
+        turn_past r k h = h ∙ rw (← e, f, ← g, k)
 
-        pub index-past : d ≡ false → params ≡ paramsAt sheet params.index → params ≡ indexedPast s sheet params.index key
-        index-past k at = at ∙ ap (paramsAt sheet) (let z : params.index ≡ indexFrom Q.Indexed s params.index key = rw (← e, f, ← g, k) in z)
+        pub index_past_lem : d ≡ false → params ≡ params_at sheet params.index → params ≡ indexed_past s sheet params.index key
+        index_past_lem k at = at ∙ ap (params_at sheet) (let z : params.index ≡ index_from Q.Indexed s params.index key = rw (← e, f, ← g, k) in z)
 
-    module _ (q : QueryParams) (e : q ≡ paramsOf sheet) where
-      pub none-past : q ≡ Q.None → params ≡ paramsAt sheet params.index → params ≡ paramsAt sheet (indexPast s sheet params.index key)
-      unfolding indexPast
-      none-past f at = at ∙ ap (paramsAt sheet) (let z : params.index ≡ indexPast s sheet params.index key = rw (← e, f) in z)
+    module _ (q : QueryParams) (e : q ≡ params_of sheet) where
+      pub none_past : q ≡ Q.None → params ≡ params_at sheet params.index → params ≡ params_at sheet (index_past s sheet params.index key)
+      unfolding index_past
+      none_past f at = at ∙ ap (params_at sheet) (let z : params.index ≡ index_past s sheet params.index key = rw (← e, f) in z)
 
-      pub named-past : q ≡ Q.Named → params ≡ paramsAt sheet params.index → params ≡ paramsAt sheet (indexPast s sheet params.index key)
-      unfolding indexPast
-      named-past f at = at ∙ ap (paramsAt sheet) (let z : params.index ≡ indexPast s sheet params.index key = rw (← e, f) in z)
+      pub named_past : q ≡ Q.Named → params ≡ params_at sheet params.index → params ≡ params_at sheet (index_past s sheet params.index key)
+      unfolding index_past
+      named_past f at = at ∙ ap (params_at sheet) (let z : params.index ≡ index_past s sheet params.index key = rw (← e, f) in z)
 
-      pub indexed-past : (r : Params) → q ≡ Q.Indexed → r ≡ indexedPast s sheet params.index key → r ≡ paramsAt sheet (indexPast s sheet params.index key)
-      unfolding indexPast
-      indexed-past r f g = g ∙ rw (← e, f)
+      pub indexed_past_lem : (r : Params) → q ≡ Q.Indexed → r ≡ indexed_past s sheet params.index key → r ≡ params_at sheet (index_past s sheet params.index key)
+      unfolding index_past
+      indexed_past_lem r f g = g ∙ rw (← e, f)
 
-  module _ (s : List ℕ) (t : Token) (params : Params) (b : Bool) (e : b ≡ isPlaceholder t) where
-    pub placeholder-past : (r : Params) → b ≡ true → r ≡ paramsAt sheet (indexPast s sheet params.index t.key) → r ≡ paramsAt sheet (indexAfter s sheet params.index t)
-    unfolding indexAfter
-    placeholder-past r f g = g ∙ rw (← e, f)
+  module _ (s : List ℕ) (t : Token) (params : Params) (b : Bool) (e : b ≡ is_placeholder t) where
+    pub placeholder_past : (r : Params) → b ≡ true → r ≡ params_at sheet (index_past s sheet params.index t.key) → r ≡ params_at sheet (index_after s sheet params.index t)
+    unfolding index_after
+    placeholder_past r f g = g ∙ rw (← e, f)
 
-    pub other-past : b ≡ false → params ≡ paramsAt sheet params.index → params ≡ paramsAt sheet (indexAfter s sheet params.index t)
-    unfolding indexAfter
-    other-past f at = at ∙ ap (paramsAt sheet) (let z : params.index ≡ indexAfter s sheet params.index t = rw (← e, f) in z)
+    pub other_past : b ≡ false → params ≡ params_at sheet params.index → params ≡ params_at sheet (index_after s sheet params.index t)
+    unfolding index_after
+    other_past f at = at ∙ ap (params_at sheet) (let z : params.index ≡ index_after s sheet params.index t = rw (← e, f) in z)

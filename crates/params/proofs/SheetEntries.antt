@@ -10,209 +10,209 @@ use mathlib.Core.List.{List}
 use borrow.Author.Tests.{le-leb, lt-leb, ne_eqb, leb-true, leb-false}
 use lib.Dec.{leb, eqb}
 use lib.ListN.{length, take, drop}
-use Rattle.characters.specs.Utf8.{wellFormed}
+use Rattle.characters.specs.Utf8.{well_formed}
 use Rattle.params.specs.declared.Lengths.{Lengths}
 use Rattle.params.specs.declared.Place.{Place}
-use Rattle.params.specs.Sheet.{countOf, width, lengthsAt, past, placeOf, nameAt, valueAt, nameOf, valueOf, bodiesAreUtf8, fillsExactly, isSheetLength, isKindAndCount, isSheet}
-use Rattle.params.proofs.SheetContents.{either-width}
+use Rattle.params.specs.Sheet.{count_of, width, lengths_at, past, place_of, name_at, value_at, name_of, value_of, bodies_are_utf8, fills_exactly, is_sheet_length, is_kind_and_count, is_sheet}
+use Rattle.params.proofs.SheetContents.{either_width}
 
 module _ (sheet : List ℕ) where
-  pub place-entry : (n : ℕ) → (placeOf sheet n).entry ≡ n
-  unfolding placeOf past
-  place-entry zero = refl
-  place-entry (suc n) = rw (place-entry n, add-one)
+  pub place_entry : (n : ℕ) → (place_of sheet n).entry ≡ n
+  unfolding place_of past
+  place_entry zero = refl
+  place_entry (suc n) = rw (place_entry n, add-one)
 
-  pub place-lengths : (n : ℕ) → (placeOf sheet n).lengths ≡ 3 + n * width sheet
-  unfolding placeOf past
-  place-lengths zero = omega arith
-  place-lengths (suc n) = rw (place-lengths n) (either-width sheet (λ w. 3 + n * w + w ≡ 3 + suc n * w) (omega arith) (omega arith))
+  pub place_lengths : (n : ℕ) → (place_of sheet n).lengths ≡ 3 + n * width sheet
+  unfolding place_of past
+  place_lengths zero = omega arith
+  place_lengths (suc n) = rw (place_lengths n) (either_width sheet (λ w. 3 + n * w + w ≡ 3 + suc n * w) (omega arith) (omega arith))
 
   -- the bodies go on
-  pub body-next : (n : ℕ) → (placeOf sheet n).body ≤ (placeOf sheet (suc n)).body
-  unfolding placeOf past
-  body-next n = omega arith
+  pub body_next : (n : ℕ) → (place_of sheet n).body ≤ (place_of sheet (suc n)).body
+  unfolding place_of past
+  body_next n = omega arith
 
-  pub body-on : (n k : ℕ) → (placeOf sheet n).body ≤ (placeOf sheet (n + k)).body
-  body-on n zero = let e : n + 0 ≡ n = omega arith in rw e (le_refl (placeOf sheet n).body)
-  body-on n (suc k) = let e : n + suc k ≡ suc (n + k) = omega arith in rw e (le_trans (body-on n k) (body-next (n + k)))
+  pub body_on : (n k : ℕ) → (place_of sheet n).body ≤ (place_of sheet (n + k)).body
+  body_on n zero = let e : n + 0 ≡ n = omega arith in rw e (le_refl (place_of sheet n).body)
+  body_on n (suc k) = let e : n + suc k ≡ suc (n + k) = omega arith in rw e (le_trans (body_on n k) (body_next (n + k)))
 
-  pub body-up-to : (n m : ℕ) → n ≤ m → (placeOf sheet n).body ≤ (placeOf sheet m).body
-  body-up-to n m h = let e : m ≡ n + (m - n) = omega arith in rw e (body-on n (m - n))
+  pub body_up_to : (n m : ℕ) → n ≤ m → (place_of sheet n).body ≤ (place_of sheet m).body
+  body_up_to n m h = let e : m ≡ n + (m - n) = omega arith in rw e (body_on n (m - n))
 
-  pub bodies-start : (placeOf sheet 0).body ≡ 3 + countOf sheet * width sheet
-  unfolding placeOf
-  bodies-start = refl
+  pub bodies_start : (place_of sheet 0).body ≡ 3 + count_of sheet * width sheet
+  unfolding place_of
+  bodies_start = refl
 
   -- an entry's lengths stand before the first body
-  pub lengths-before : (n : ℕ) → n < countOf sheet → (placeOf sheet n).lengths + width sheet ≤ (placeOf sheet 0).body
-  lengths-before n h = rw (place-lengths n, bodies-start) (either-width sheet (λ w. 3 + n * w + w ≤ 3 + countOf sheet * w) (omega arith) (omega arith))
+  pub lengths_before : (n : ℕ) → n < count_of sheet → (place_of sheet n).lengths + width sheet ≤ (place_of sheet 0).body
+  lengths_before n h = rw (place_lengths n, bodies_start) (either_width sheet (λ w. 3 + n * w + w ≤ 3 + count_of sheet * w) (omega arith) (omega arith))
 
   -- ---- UTF-8 of the first entries
 
-  abbrev goodAt : ℕ → Bool
-  goodAt n = wellFormed (nameOf sheet n) && wellFormed (valueOf sheet n)
+  abbrev good_at : ℕ → Bool
+  good_at n = well_formed (name_of sheet n) && well_formed (value_of sheet n)
 
-  pub utf8-next : (n : ℕ) → bodiesAreUtf8 sheet (suc n) ≡ (bodiesAreUtf8 sheet n && goodAt n)
-  unfolding bodiesAreUtf8
-  utf8-next n = refl
+  pub utf8_next : (n : ℕ) → bodies_are_utf8 sheet (suc n) ≡ (bodies_are_utf8 sheet n && good_at n)
+  unfolding bodies_are_utf8
+  utf8_next n = refl
 
-  left-false : (a b : Bool) → a ≡ false → (a && b) ≡ false
-  left-false a b e = rw e
+  left_false : (a b : Bool) → a ≡ false → (a && b) ≡ false
+  left_false a b e = rw e
 
-  utf8-stays : (n k : ℕ) → bodiesAreUtf8 sheet n ≡ false → bodiesAreUtf8 sheet (n + k) ≡ false
-  utf8-stays n zero e = let f : n + 0 ≡ n = omega arith in rw f e
-  utf8-stays n (suc k) e = let f : n + suc k ≡ suc (n + k) = omega arith in rw (f, utf8-next (n + k)) (left-false _ _ (utf8-stays n k e))
+  utf8_stays : (n k : ℕ) → bodies_are_utf8 sheet n ≡ false → bodies_are_utf8 sheet (n + k) ≡ false
+  utf8_stays n zero e = let f : n + 0 ≡ n = omega arith in rw f e
+  utf8_stays n (suc k) e = let f : n + suc k ≡ suc (n + k) = omega arith in rw (f, utf8_next (n + k)) (left_false _ _ (utf8_stays n k e))
 
-  utf8-up-to : (n m : ℕ) → n ≤ m → bodiesAreUtf8 sheet n ≡ false → bodiesAreUtf8 sheet m ≡ false
-  utf8-up-to n m h e = let f : m ≡ n + (m - n) = omega arith in rw f (utf8-stays n (m - n) e)
+  utf8_up_to : (n m : ℕ) → n ≤ m → bodies_are_utf8 sheet n ≡ false → bodies_are_utf8 sheet m ≡ false
+  utf8_up_to n m h e = let f : m ≡ n + (m - n) = omega arith in rw f (utf8_stays n (m - n) e)
 
   -- ---- the bodies at a place, as they are looked at
 
-  module _ (p : Place) (l : Lengths) (e : l ≡ lengthsAt sheet p) where
-    pub bodies-long : length sheet < p.body + l.name + l.value → false ≡ (leb (past sheet p).body (length sheet) && (wellFormed (nameAt sheet p) && wellFormed (valueAt sheet p)))
+  module _ (p : Place) (l : Lengths) (e : l ≡ lengths_at sheet p) where
+    pub bodies_long : length sheet < p.body + l.name + l.value → false ≡ (leb (past sheet p).body (length sheet) && (well_formed (name_at sheet p) && well_formed (value_at sheet p)))
     unfolding past
-    bodies-long h = rw (← e, lt-leb _ _ h)
+    bodies_long h = rw (← e, lt-leb _ _ h)
 
     back : (start len : ℕ) → start + len - start ≡ len
     back start len = omega arith
 
     module _ (h : p.body + l.name + l.value ≤ length sheet) (b : Bool)
-        (f : b ≡ wellFormed (take (p.body + l.name - p.body) (drop p.body sheet))) where
-      pub name-bad : b ≡ false → false ≡ (leb (past sheet p).body (length sheet) && (wellFormed (nameAt sheet p) && wellFormed (valueAt sheet p)))
-      unfolding past nameAt
-      name-bad g = let k : wellFormed (take l.name (drop p.body sheet)) ≡ false = rw (← back p.body l.name) (sym f ∙ g) in rw (← e, le-leb _ _ h, k)
+        (f : b ≡ well_formed (take (p.body + l.name - p.body) (drop p.body sheet))) where
+      pub name_bad : b ≡ false → false ≡ (leb (past sheet p).body (length sheet) && (well_formed (name_at sheet p) && well_formed (value_at sheet p)))
+      unfolding past name_at
+      name_bad g = let k : well_formed (take l.name (drop p.body sheet)) ≡ false = rw (← back p.body l.name) (sym f ∙ g) in rw (← e, le-leb _ _ h, k)
 
-      pub value-told : (d : Bool) → b ≡ true → d ≡ wellFormed (take (p.body + l.name + l.value - (p.body + l.name)) (drop (p.body + l.name) sheet))
-          → d ≡ (leb (past sheet p).body (length sheet) && (wellFormed (nameAt sheet p) && wellFormed (valueAt sheet p)))
-      unfolding past nameAt valueAt
-      value-told d g k =
-          let m : wellFormed (take l.name (drop p.body sheet)) ≡ true = rw (← back p.body l.name) (sym f ∙ g) in
-          let q : d ≡ wellFormed (take l.value (drop (p.body + l.name) sheet)) = rw (back (p.body + l.name) l.value) at k in
+      pub value_told : (d : Bool) → b ≡ true → d ≡ well_formed (take (p.body + l.name + l.value - (p.body + l.name)) (drop (p.body + l.name) sheet))
+          → d ≡ (leb (past sheet p).body (length sheet) && (well_formed (name_at sheet p) && well_formed (value_at sheet p)))
+      unfolding past name_at value_at
+      value_told d g k =
+          let m : well_formed (take l.name (drop p.body sheet)) ≡ true = rw (← back p.body l.name) (sym f ∙ g) in
+          let q : d ≡ well_formed (take l.value (drop (p.body + l.name) sheet)) = rw (back (p.body + l.name) l.value) at k in
           q ∙ rw (← e, le-leb _ _ h, m)
 
   -- ---- the sheet is looked through: the entries before p are good
 
   pub record Checking (p : Place) : Type 0 where
-    pub stands : p ≡ placeOf sheet p.entry
-    pub within : p.entry ≤ countOf sheet
-    pub from : (placeOf sheet 0).body ≤ length sheet
+    pub stands : p ≡ place_of sheet p.entry
+    pub within : p.entry ≤ count_of sheet
+    pub from : (place_of sheet 0).body ≤ length sheet
     pub inside : p.body ≤ length sheet
-    pub good : bodiesAreUtf8 sheet p.entry ≡ true
+    pub good : bodies_are_utf8 sheet p.entry ≡ true
 
   abbrev whole : Bool
-  whole = fillsExactly sheet && bodiesAreUtf8 sheet (countOf sheet)
+  whole = fills_exactly sheet && bodies_are_utf8 sheet (count_of sheet)
 
   -- a body past the end
-  too-long : (n : ℕ) → n ≤ countOf sheet → length sheet < (placeOf sheet n).body → false ≡ whole
-  unfolding fillsExactly
-  too-long n h k =
-      let d : (placeOf sheet (countOf sheet)).body ≡ length sheet → ⊥ = λ e. let m = body-up-to n (countOf sheet) h in let z : ⊥ = omega (arith, m, e, k) in z in
+  too_long : (n : ℕ) → n ≤ count_of sheet → length sheet < (place_of sheet n).body → false ≡ whole
+  unfolding fills_exactly
+  too_long n h k =
+      let d : (place_of sheet (count_of sheet)).body ≡ length sheet → ⊥ = λ e. let m = body_up_to n (count_of sheet) h in let z : ⊥ = omega (arith, m, e, k) in z in
       rw (ne_eqb _ _ d)
 
-  right-false : (a b : Bool) → b ≡ false → false ≡ (a && b)
-  right-false true b e = sym e
-  right-false false b e = refl
+  right_false : (a b : Bool) → b ≡ false → false ≡ (a && b)
+  right_false true b e = sym e
+  right_false false b e = refl
 
   module _ (p : Place) where
-    pub start-long : p ≡ placeOf sheet 0 → length sheet < p.body → false ≡ whole
-    start-long e h = too-long 0 zero-le (rw (← e) h)
+    pub start_long : p ≡ place_of sheet 0 → length sheet < p.body → false ≡ whole
+    start_long e h = too_long 0 zero-le (rw (← e) h)
 
-    pub check-start : p ≡ placeOf sheet 0 → p.body ≤ length sheet → Checking p
-    unfolding bodiesAreUtf8 placeOf
-    check-start e h = rw e (record { stands = refl; within = zero-le; from = k; inside = k; good = refl })
+    pub check_start : p ≡ place_of sheet 0 → p.body ≤ length sheet → Checking p
+    unfolding bodies_are_utf8 place_of
+    check_start e h = rw e (record { stands = refl; within = zero-le; from = k; inside = k; good = refl })
       where
-        k : (placeOf sheet 0).body ≤ length sheet
-        k = let m : p.body ≡ (placeOf sheet 0).body = ap (λ (q : Place). q.body) e in omega (arith, m)
+        k : (place_of sheet 0).body ≤ length sheet
+        k = let m : p.body ≡ (place_of sheet 0).body = ap (λ (q : Place). q.body) e in omega (arith, m)
 
-    module _ (at : Checking p) (n : ℕ) (count : n ≡ countOf sheet) where
-      pub check-body : length sheet ≤ 65536 → p.body ≤ 65536
-      check-body h = omega (arith, at.inside)
+    module _ (at : Checking p) (n : ℕ) (count : n ≡ count_of sheet) where
+      pub check_body : length sheet ≤ 65536 → p.body ≤ 65536
+      check_body h = omega (arith, at.inside)
 
       module _ (h : p.entry < n) where
-        below : p.entry < countOf sheet
+        below : p.entry < count_of sheet
         below = rw (← count) h
 
-        pub check-lengths : p.lengths + width sheet ≤ length sheet
-        check-lengths =
-            let m : (placeOf sheet p.entry).lengths + width sheet ≤ (placeOf sheet 0).body = lengths-before p.entry below in
-            let l : p.lengths ≡ (placeOf sheet p.entry).lengths = ap (λ (q : Place). q.lengths) at.stands in
+        pub check_lengths : p.lengths + width sheet ≤ length sheet
+        check_lengths =
+            let m : (place_of sheet p.entry).lengths + width sheet ≤ (place_of sheet 0).body = lengths_before p.entry below in
+            let l : p.lengths ≡ (place_of sheet p.entry).lengths = ap (λ (q : Place). q.lengths) at.stands in
             omega (arith, m, l, at.from)
 
-        pub check-entry : n < 65536 → p.entry ≤ 65536
-        check-entry k = omega arith
+        pub check_entry : n < 65536 → p.entry ≤ 65536
+        check_entry k = omega arith
 
-        abbrev goodHere : Bool
-        goodHere = leb (past sheet p).body (length sheet) && (wellFormed (nameAt sheet p) && wellFormed (valueAt sheet p))
+        abbrev good_here : Bool
+        good_here = leb (past sheet p).body (length sheet) && (well_formed (name_at sheet p) && well_formed (value_at sheet p))
 
-        next-stands : past sheet p ≡ placeOf sheet (suc p.entry)
-        unfolding placeOf
-        next-stands = ap (past sheet) at.stands
+        next_stands : past sheet p ≡ place_of sheet (suc p.entry)
+        unfolding place_of
+        next_stands = ap (past sheet) at.stands
 
-        next-good : bodiesAreUtf8 sheet (suc p.entry) ≡ (wellFormed (nameAt sheet p) && wellFormed (valueAt sheet p))
-        unfolding nameOf valueOf
-        next-good = rw (utf8-next p.entry, at.good, ← at.stands)
+        next_good : bodies_are_utf8 sheet (suc p.entry) ≡ (well_formed (name_at sheet p) && well_formed (value_at sheet p))
+        unfolding name_of value_of
+        next_good = rw (utf8_next p.entry, at.good, ← at.stands)
 
-        next-entry : (past sheet p).entry ≡ p.entry + 1
+        next_entry : (past sheet p).entry ≡ p.entry + 1
         unfolding past
-        next-entry = refl
+        next_entry = refl
 
-        module _ (b : Bool) (e : b ≡ goodHere) where
-          pub check-more : b ≡ true → (q : Place) → q ≡ past sheet p → Checking q
-          check-more f q g = rw g (go (leb (past sheet p).body (length sheet)) refl)
+        module _ (b : Bool) (e : b ≡ good_here) where
+          pub check_more : b ≡ true → (q : Place) → q ≡ past sheet p → Checking q
+          check_more f q g = rw g (go (leb (past sheet p).body (length sheet)) refl)
             where
               go : (t : Bool) → leb (past sheet p).body (length sheet) ≡ t → Checking (past sheet p)
               go true k =
-                  let m : (wellFormed (nameAt sheet p) && wellFormed (valueAt sheet p)) ≡ true = sym (sym f ∙ e ∙ rw k) in
-                  let j : (past sheet p).entry ≡ suc p.entry = next-entry ∙ add-one p.entry in
+                  let m : (well_formed (name_at sheet p) && well_formed (value_at sheet p)) ≡ true = sym (sym f ∙ e ∙ rw k) in
+                  let j : (past sheet p).entry ≡ suc p.entry = next_entry ∙ add-one p.entry in
                   record {
-                    stands = next-stands ∙ ap (placeOf sheet) (sym j);
+                    stands = next_stands ∙ ap (place_of sheet) (sym j);
                     within = rw j (omega (arith, below));
                     from = at.from;
                     inside = leb-true _ _ k;
-                    good = rw (j, next-good) m;
+                    good = rw (j, next_good) m;
                   }
               go false k = absurd (false≢true (sym (sym f ∙ e ∙ rw k)))
 
-          pub check-less : (q : Place) → q ≡ past sheet p → n - q.entry < n - p.entry
-          check-less q g = rw (g, next-entry) (omega arith)
+          pub check_less : (q : Place) → q ≡ past sheet p → n - q.entry < n - p.entry
+          check_less q g = rw (g, next_entry) (omega arith)
 
-          pub check-fails : b ≡ false → false ≡ whole
-          check-fails f = go (leb (past sheet p).body (length sheet)) refl
+          pub check_fails : b ≡ false → false ≡ whole
+          check_fails f = go (leb (past sheet p).body (length sheet)) refl
             where
               go : (t : Bool) → leb (past sheet p).body (length sheet) ≡ t → false ≡ whole
               go true k =
-                  let m : (wellFormed (nameAt sheet p) && wellFormed (valueAt sheet p)) ≡ false = sym (sym f ∙ e ∙ rw k) in
-                  right-false (fillsExactly sheet) _ (utf8-up-to (suc p.entry) (countOf sheet) (omega (arith, below)) (next-good ∙ m))
-              go false k = too-long (suc p.entry) (omega (arith, below)) (rw (← next-stands) (leb-false _ _ k))
+                  let m : (well_formed (name_at sheet p) && well_formed (value_at sheet p)) ≡ false = sym (sym f ∙ e ∙ rw k) in
+                  right_false (fills_exactly sheet) _ (utf8_up_to (suc p.entry) (count_of sheet) (omega (arith, below)) (next_good ∙ m))
+              go false k = too_long (suc p.entry) (omega (arith, below)) (rw (← next_stands) (leb-false _ _ k))
 
-      pub check-end : n ≤ p.entry → eqb p.body (length sheet) ≡ whole
-      unfolding fillsExactly
-      check-end h =
-          let f : p.entry ≡ countOf sheet = omega (arith, count, at.within) in
-          let g : bodiesAreUtf8 sheet (countOf sheet) ≡ true = rw (← f) at.good in
-          let k : p.body ≡ (placeOf sheet (countOf sheet)).body = rw (← f) (ap (λ (q : Place). q.body) at.stands) in
-          rw (g, k) (sym (and-true (eqb (placeOf sheet (countOf sheet)).body (length sheet))))
+      pub check_end : n ≤ p.entry → eqb p.body (length sheet) ≡ whole
+      unfolding fills_exactly
+      check_end h =
+          let f : p.entry ≡ count_of sheet = omega (arith, count, at.within) in
+          let g : bodies_are_utf8 sheet (count_of sheet) ≡ true = rw (← f) at.good in
+          let k : p.body ≡ (place_of sheet (count_of sheet)).body = rw (← f) (ap (λ (q : Place). q.body) at.stands) in
+          rw (g, k) (sym (and_true (eqb (place_of sheet (count_of sheet)).body (length sheet))))
         where
-          and-true : (b : Bool) → (b && true) ≡ b
-          and-true true = refl
-          and-true false = refl
+          and_true : (b : Bool) → (b && true) ≡ b
+          and_true true = refl
+          and_true false = refl
 
   -- ---- a sheet that is not malformed
 
-  pub too-short : length sheet < 3 → false ≡ isSheet sheet
-  unfolding isSheet isSheetLength
-  too-short h = rw (lt-leb _ _ h)
+  pub too_short : length sheet < 3 → false ≡ is_sheet sheet
+  unfolding is_sheet is_sheet_length
+  too_short h = rw (lt-leb _ _ h)
 
   module _ (h : 3 ≤ length sheet) where
-    pub overlong : 65536 < length sheet → false ≡ isSheet sheet
-    unfolding isSheet isSheetLength
+    pub overlong : 65536 < length sheet → false ≡ is_sheet sheet
+    unfolding is_sheet is_sheet_length
     overlong k = rw (le-leb _ _ h, lt-leb _ _ k)
 
-    module _ (k : length sheet ≤ 65536) (b : Bool) (e : b ≡ isKindAndCount sheet) where
-      pub wrong-kind : b ≡ false → false ≡ isSheet sheet
-      unfolding isSheet isSheetLength
-      wrong-kind f = rw (le-leb _ _ h, le-leb _ _ k, ← e, f)
+    module _ (k : length sheet ≤ 65536) (b : Bool) (e : b ≡ is_kind_and_count sheet) where
+      pub wrong_kind : b ≡ false → false ≡ is_sheet sheet
+      unfolding is_sheet is_sheet_length
+      wrong_kind f = rw (le-leb _ _ h, le-leb _ _ k, ← e, f)
 
-      pub sheet-told : (d : Bool) → b ≡ true → d ≡ whole → d ≡ isSheet sheet
-      unfolding isSheet isSheetLength
-      sheet-told d f g = g ∙ rw (le-leb _ _ h, le-leb _ _ k, ← e, f)
+      pub sheet_told : (d : Bool) → b ≡ true → d ≡ whole → d ≡ is_sheet sheet
+      unfolding is_sheet is_sheet_length
+      sheet_told d f g = g ∙ rw (le-leb _ _ h, le-leb _ _ k, ← e, f)

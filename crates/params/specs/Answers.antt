@@ -6,77 +6,77 @@ use Rattle.calls.specs.declared.Checked.{Checked}
 use Rattle.calls.specs.declared.Checked.TheVariants.{Accepted, Refused}
 use Rattle.calls.specs.declared.Settings.{Settings}
 use Rattle.calls.specs.declared.TextAnswer.{TextAnswer}
-use Rattle.calls.specs.Checks.{checked, acceptedOr, toldNumber, toldDetail}
-use Rattle.calls.specs.Texts.{callAnswer, callOutput}
+use Rattle.calls.specs.Checks.{checked, accepted_or, told_number, told_detail}
+use Rattle.calls.specs.Texts.{call_answer, call_output}
 use Rattle.tokenizer.specs.declared.Token.{Token}
 use Rattle.tokenizer.specs.Tokens.{tokens}
 use Rattle.params.specs.declared.Found.{Found}
 use Rattle.params.specs.declared.Part.{Part}
 use Rattle.params.specs.declared.Part.TheVariants as P
-use Rattle.params.specs.Sheet.{isSheet}
-use Rattle.params.specs.Filled.{standsFor, indexAfter, partBytes, partLength, partStart, filled}
+use Rattle.params.specs.Sheet.{is_sheet}
+use Rattle.params.specs.Filled.{stands_for, index_after, part_bytes, part_length, part_start, filled}
 
 -- a malformed sheet is refused once the statement and the settings are accepted
-abbrev pub withSheet : List ℕ → Checked → Checked
-withSheet sheet (Accepted settings) = cond (isSheet sheet) (Accepted settings) (Refused R.Sheet)
-withSheet sheet (Refused refusal) = Refused refusal
+abbrev pub with_sheet : List ℕ → Checked → Checked
+with_sheet sheet (Accepted settings) = cond (is_sheet sheet) (Accepted settings) (Refused R.Sheet)
+with_sheet sheet (Refused refusal) = Refused refusal
 
-unfoldable pub checkedWith : List ℕ → ℕ → ℕ → ℕ → List ℕ → Checked
-checkedWith s dialect joins named sheet = withSheet sheet (checked dialect joins named s)
+unfoldable pub checked_with : List ℕ → ℕ → ℕ → ℕ → List ℕ → Checked
+checked_with s dialect joins named sheet = with_sheet sheet (checked dialect joins named s)
 
 -- ---- fill
 
 -- the answer, for a statement, the settings as numbers, a sheet and an output of so many bytes
-abbrev pub fillAnswer : List ℕ → ℕ → ℕ → ℕ → List ℕ → ℕ → TextAnswer
-fillAnswer s dialect joins named sheet room = callAnswer (λ settings. filled settings s sheet) room (checkedWith s dialect joins named sheet)
+abbrev pub fill_answer : List ℕ → ℕ → ℕ → ℕ → List ℕ → ℕ → TextAnswer
+fill_answer s dialect joins named sheet room = call_answer (λ settings. filled settings s sheet) room (checked_with s dialect joins named sheet)
 
 -- the whole output afterwards
-abbrev pub fillOutput : List ℕ → ℕ → ℕ → ℕ → List ℕ → List ℕ → List ℕ
-fillOutput s dialect joins named sheet output = callOutput (λ settings. filled settings s sheet) output (checkedWith s dialect joins named sheet)
+abbrev pub fill_output : List ℕ → ℕ → ℕ → ℕ → List ℕ → List ℕ → List ℕ
+fill_output s dialect joins named sheet output = call_output (λ settings. filled settings s sheet) output (checked_with s dialect joins named sheet)
 
 -- ---- lookup
 
 -- the empty start of the statement, and the counter kept
-unfoldable pub nothingFound : ℕ → Found
-nothingFound counter = record { part = P.Statement 0 0; counter = counter }
+unfoldable pub nothing_found : ℕ → Found
+nothing_found counter = record { part = P.Statement 0 0; counter = counter }
 
 -- what stands for a token, and the counter past it
-abbrev pub foundFor : List ℕ → List ℕ → ℕ → Token → Found
-foundFor s sheet counter t = record { part = standsFor s sheet counter t; counter = indexAfter s sheet counter t }
+abbrev pub found_for : List ℕ → List ℕ → ℕ → Token → Found
+found_for s sheet counter t = record { part = stands_for s sheet counter t; counter = index_after s sheet counter t }
 
 -- the same of the first of these tokens
-unfoldable pub foundFirst : List ℕ → List ℕ → ℕ → List Token → Found
-foundFirst s sheet counter [] = nothingFound counter
-foundFirst s sheet counter (t ∷ ts) = foundFor s sheet counter t
+unfoldable pub found_first : List ℕ → List ℕ → ℕ → List Token → Found
+found_first s sheet counter [] = nothing_found counter
+found_first s sheet counter (t ∷ ts) = found_for s sheet counter t
 
 -- of the token at a place in the list
-unfoldable pub foundAt : Settings → List ℕ → List ℕ → ℕ → ℕ → Found
-foundAt settings s sheet place counter = foundFirst s sheet counter (drop place (tokens settings s))
+unfoldable pub found_at : Settings → List ℕ → List ℕ → ℕ → ℕ → Found
+found_at settings s sheet place counter = found_first s sheet counter (drop place (tokens settings s))
 
 -- the part handed back, of the statement or of the sheet, and the counter afterwards
-unfoldable pub lookupFound : List ℕ → ℕ → ℕ → ℕ → List ℕ → ℕ → ℕ → Found
-lookupFound s dialect joins named sheet place counter =
-    acceptedOr (λ settings. foundAt settings s sheet place counter) (λ refusal. nothingFound counter) (checkedWith s dialect joins named sheet)
+unfoldable pub lookup_found : List ℕ → ℕ → ℕ → ℕ → List ℕ → ℕ → ℕ → Found
+lookup_found s dialect joins named sheet place counter =
+    accepted_or (λ settings. found_at settings s sheet place counter) (λ refusal. nothing_found counter) (checked_with s dialect joins named sheet)
 
-abbrev pub lookupPart : List ℕ → ℕ → ℕ → ℕ → List ℕ → ℕ → ℕ → Part
-lookupPart s dialect joins named sheet place counter = (lookupFound s dialect joins named sheet place counter).part
+abbrev pub lookup_part : List ℕ → ℕ → ℕ → ℕ → List ℕ → ℕ → ℕ → Part
+lookup_part s dialect joins named sheet place counter = (lookup_found s dialect joins named sheet place counter).part
 
-abbrev pub lookupCounter : List ℕ → ℕ → ℕ → ℕ → List ℕ → ℕ → ℕ → ℕ
-lookupCounter s dialect joins named sheet place counter = (lookupFound s dialect joins named sheet place counter).counter
+abbrev pub lookup_counter : List ℕ → ℕ → ℕ → ℕ → List ℕ → ℕ → ℕ → ℕ
+lookup_counter s dialect joins named sheet place counter = (lookup_found s dialect joins named sheet place counter).counter
 
 -- the bytes of the part
-abbrev pub lookupBytes : List ℕ → ℕ → ℕ → ℕ → List ℕ → ℕ → ℕ → List ℕ
-lookupBytes s dialect joins named sheet place counter = partBytes s sheet (lookupPart s dialect joins named sheet place counter)
+abbrev pub lookup_bytes : List ℕ → ℕ → ℕ → ℕ → List ℕ → ℕ → ℕ → List ℕ
+lookup_bytes s dialect joins named sheet place counter = part_bytes s sheet (lookup_part s dialect joins named sheet place counter)
 
 -- where it starts in memory, for a statement and a sheet that lie there
-abbrev pub lookupStart : Bor (List ℕ) → ℕ → ℕ → ℕ → Bor (List ℕ) → ℕ → ℕ → ℕ × ℕ
-lookupStart s dialect joins named sheet place counter =
-    partStart s.ref_ptr sheet.ref_ptr (lookupPart s.now dialect joins named sheet.now place counter)
+abbrev pub lookup_start : Bor (List ℕ) → ℕ → ℕ → ℕ → Bor (List ℕ) → ℕ → ℕ → ℕ × ℕ
+lookup_start s dialect joins named sheet place counter =
+    part_start s.ref_ptr sheet.ref_ptr (lookup_part s.now dialect joins named sheet.now place counter)
 
 -- the number, and the detail beside it
-unfoldable pub lookupNumber : List ℕ → ℕ → ℕ → ℕ → List ℕ → ℕ
-lookupNumber s dialect joins named sheet = toldNumber (checkedWith s dialect joins named sheet)
+unfoldable pub lookup_number : List ℕ → ℕ → ℕ → ℕ → List ℕ → ℕ
+lookup_number s dialect joins named sheet = told_number (checked_with s dialect joins named sheet)
 
-unfoldable pub lookupDetail : List ℕ → ℕ → ℕ → ℕ → List ℕ → ℕ → ℕ → ℕ
-lookupDetail s dialect joins named sheet place counter =
-    toldDetail (partLength (lookupPart s dialect joins named sheet place counter)) (checkedWith s dialect joins named sheet)
+unfoldable pub lookup_detail : List ℕ → ℕ → ℕ → ℕ → List ℕ → ℕ → ℕ → ℕ
+lookup_detail s dialect joins named sheet place counter =
+    told_detail (part_length (lookup_part s dialect joins named sheet place counter)) (checked_with s dialect joins named sheet)

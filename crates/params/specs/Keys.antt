@@ -2,23 +2,23 @@
 use Rattle.std.specs.Prelude.{ℕ, Bool, true, false, List, ltb, length}
 use Rattle.recognisers.specs.declared.Key.{Key}
 use Rattle.recognisers.specs.declared.Key.TheVariants.{None, Named, Escaped, ZeroIndexed, OneIndexed}
-use Rattle.tokenizer.specs.KeyText.{keyText}
+use Rattle.tokenizer.specs.KeyText.{key_text}
 
 -- `key.named() != ""`; no key has the empty text
-unfoldable pub hasName : List ℕ → Key → Bool
-hasName s key = ltb 0 (length (keyText s key))
+unfoldable pub has_name : List ℕ → Key → Bool
+has_name s key = ltb 0 (length (key_text s key))
 
-abbrev pub hasKey : Key → Bool
-hasKey None = false
-hasKey (Named start len) = true
-hasKey (Escaped start len) = true
-hasKey (ZeroIndexed n) = true
-hasKey (OneIndexed n) = true
+abbrev pub has_key : Key → Bool
+has_key None = false
+has_key (Named start len) = true
+has_key (Escaped start len) = true
+has_key (ZeroIndexed n) = true
+has_key (OneIndexed n) = true
 
 -- `key.indexed()` is none
-abbrev pub hasNoIndex : Key → Bool
-hasNoIndex None = true
-hasNoIndex (Named start len) = true
-hasNoIndex (Escaped start len) = true
-hasNoIndex (ZeroIndexed n) = false
-hasNoIndex (OneIndexed n) = false
+abbrev pub has_no_index : Key → Bool
+has_no_index None = true
+has_no_index (Named start len) = true
+has_no_index (Escaped start len) = true
+has_no_index (ZeroIndexed n) = false
+has_no_index (OneIndexed n) = false

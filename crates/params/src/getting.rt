@@ -1,12 +1,12 @@
 // `Params::get`: what stands for a token, and the counter past it.
 ghost use Rattle.std.specs.Prelude.{◌≡◌, true, ◌≤◌, length};
-ghost use Rattle.params.specs.Sheet.{isSheet};
-ghost use Rattle.params.specs.Keys.{hasNoIndex};
-ghost use Rattle.params.specs.Inner.Inside.{keyEnd};
-ghost use Rattle.params.specs.Get.{byIndex, get, indexPast};
-ghost use Rattle.params.specs.Inner.Carried.{paramsAt};
-ghost use Rattle.params.specs.Inner.Cases.{namedPart, indexedPart, indexedPast};
-ghost use Rattle.params.specs.Filled.{standsFor, indexAfter};
+ghost use Rattle.params.specs.Sheet.{is_sheet};
+ghost use Rattle.params.specs.Keys.{has_no_index};
+ghost use Rattle.params.specs.Inner.Inside.{key_end};
+ghost use Rattle.params.specs.Get.{by_index, get, index_past};
+ghost use Rattle.params.specs.Inner.Carried.{params_at};
+ghost use Rattle.params.specs.Inner.Cases.{named_part, indexed_part, indexed_past};
+ghost use Rattle.params.specs.Filled.{stands_for, index_after};
 
 use crate::keys::{has_key, has_name};
 use crate::places::{own_text, params_next, place_named, value_at, value_numbered};
@@ -16,9 +16,9 @@ use recognisers::{Key, TokenKind, is_kind};
 use tokenizer::Token;
 
 fn get_named(statement: &[u8], sheet: &[u8], token: Token) -> Part
-    requires sheet_value { isSheet sheet.now ≡ true }
-    requires key_in_bounds { keyEnd token.key ≤ length statement.now }
-    ensures { result ≡ namedPart statement.now sheet.now token }
+    requires sheet_value { is_sheet sheet.now ≡ true }
+    requires key_in_bounds { key_end token.key ≤ length statement.now }
+    ensures { result ≡ named_part statement.now sheet.now token }
 {
     let key = token.key;
     if has_key(key) {
@@ -28,7 +28,7 @@ fn get_named(statement: &[u8], sheet: &[u8], token: Token) -> Part
 }
 
 fn has_no_index(key: Key) -> bool
-    ensures { result ≡ hasNoIndex key }
+    ensures { result ≡ has_no_index key }
 {
     match key {
         Key::None => true,
@@ -41,8 +41,8 @@ fn has_no_index(key: Key) -> bool
 
 // The number of the entry that a key without a name takes; a one-indexed zero counts as past the end.
 fn number_of(sheet: &[u8], index: u64, key: Key) -> u64
-    requires { isSheet sheet.now ≡ true }
-    ensures { result ≡ byIndex sheet.now index key }
+    requires { is_sheet sheet.now ≡ true }
+    ensures { result ≡ by_index sheet.now index key }
 {
     match key {
         Key::None => index,
@@ -59,10 +59,10 @@ fn number_of(sheet: &[u8], index: u64, key: Key) -> u64
 }
 
 fn get_indexed(statement: &[u8], sheet: &[u8], params: Params, token: Token) -> Part
-    requires sheet_value { isSheet sheet.now ≡ true }
-    requires key_in_bounds { keyEnd token.key ≤ length statement.now }
-    requires params_value { params ≡ paramsAt sheet.now params.index }
-    ensures { result ≡ indexedPart statement.now sheet.now params.index token }
+    requires sheet_value { is_sheet sheet.now ≡ true }
+    requires key_in_bounds { key_end token.key ≤ length statement.now }
+    requires params_value { params ≡ params_at sheet.now params.index }
+    ensures { result ≡ indexed_part statement.now sheet.now params.index token }
 {
     let key = token.key;
     let next = params.next;
@@ -76,9 +76,9 @@ fn get_indexed(statement: &[u8], sheet: &[u8], params: Params, token: Token) -> 
 }
 
 fn get(statement: &[u8], sheet: &[u8], params: Params, token: Token) -> Part
-    requires sheet_value { isSheet sheet.now ≡ true }
-    requires key_in_bounds { keyEnd token.key ≤ length statement.now }
-    requires params_value { params ≡ paramsAt sheet.now params.index }
+    requires sheet_value { is_sheet sheet.now ≡ true }
+    requires key_in_bounds { key_end token.key ≤ length statement.now }
+    requires params_value { params ≡ params_at sheet.now params.index }
     ensures { result ≡ get statement.now sheet.now params.index token }
 {
     match params_of(sheet) {
@@ -89,10 +89,10 @@ fn get(statement: &[u8], sheet: &[u8], params: Params, token: Token) -> Part
 }
 
 pub fn stands_for(statement: &[u8], sheet: &[u8], params: Params, token: Token) -> Part
-    requires sheet_value { isSheet sheet.now ≡ true }
-    requires key_in_bounds { keyEnd token.key ≤ length statement.now }
-    requires params_value { params ≡ paramsAt sheet.now params.index }
-    ensures { result ≡ standsFor statement.now sheet.now params.index token }
+    requires sheet_value { is_sheet sheet.now ≡ true }
+    requires key_in_bounds { key_end token.key ≤ length statement.now }
+    requires params_value { params ≡ params_at sheet.now params.index }
+    ensures { result ≡ stands_for statement.now sheet.now params.index token }
 {
     let kind = token.kind;
     if is_kind(kind, TokenKind::Placeholder) {
@@ -103,10 +103,10 @@ pub fn stands_for(statement: &[u8], sheet: &[u8], params: Params, token: Token) 
 
 // The counter past a placeholder with an indexed sheet: it moves where the value was the next in turn, or would have been.
 fn past_indexed(statement: &[u8], sheet: &[u8], params: Params, key: Key) -> Params
-    requires sheet_value { isSheet sheet.now ≡ true }
-    requires key_in_bounds { keyEnd key ≤ length statement.now }
-    requires params_value { params ≡ paramsAt sheet.now params.index }
-    ensures { result ≡ indexedPast statement.now sheet.now params.index key }
+    requires sheet_value { is_sheet sheet.now ≡ true }
+    requires key_in_bounds { key_end key ≤ length statement.now }
+    requires params_value { params ≡ params_at sheet.now params.index }
+    ensures { result ≡ indexed_past statement.now sheet.now params.index key }
 {
     if has_name(statement, key) {
         return params;
@@ -118,10 +118,10 @@ fn past_indexed(statement: &[u8], sheet: &[u8], params: Params, key: Key) -> Par
 }
 
 fn past_placeholder(statement: &[u8], sheet: &[u8], params: Params, key: Key) -> Params
-    requires sheet_value { isSheet sheet.now ≡ true }
-    requires key_in_bounds { keyEnd key ≤ length statement.now }
-    requires params_value { params ≡ paramsAt sheet.now params.index }
-    ensures { result ≡ paramsAt sheet.now (indexPast statement.now sheet.now params.index key) }
+    requires sheet_value { is_sheet sheet.now ≡ true }
+    requires key_in_bounds { key_end key ≤ length statement.now }
+    requires params_value { params ≡ params_at sheet.now params.index }
+    ensures { result ≡ params_at sheet.now (index_past statement.now sheet.now params.index key) }
 {
     match params_of(sheet) {
         QueryParams::None => params,
@@ -131,10 +131,10 @@ fn past_placeholder(statement: &[u8], sheet: &[u8], params: Params, key: Key) ->
 }
 
 pub fn params_past(statement: &[u8], sheet: &[u8], params: Params, token: Token) -> Params
-    requires sheet_value { isSheet sheet.now ≡ true }
-    requires key_in_bounds { keyEnd token.key ≤ length statement.now }
-    requires params_value { params ≡ paramsAt sheet.now params.index }
-    ensures { result ≡ paramsAt sheet.now (indexAfter statement.now sheet.now params.index token) }
+    requires sheet_value { is_sheet sheet.now ≡ true }
+    requires key_in_bounds { key_end token.key ≤ length statement.now }
+    requires params_value { params ≡ params_at sheet.now params.index }
+    ensures { result ≡ params_at sheet.now (index_after statement.now sheet.now params.index token) }
 {
     let kind = token.kind;
     let key = token.key;

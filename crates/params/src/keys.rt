@@ -1,18 +1,18 @@
 // What is asked of a token's key: its text, with escapes undone, and its index.
 ghost use Rattle.std.specs.Prelude.{◌≡◌, ◌&&◌, ◌+◌, ◌≤◌, ◌<◌, eqb, length, drop, get_or};
 ghost use Rattle.recognisers.specs.Text.{byte};
-ghost use Rattle.recognisers.specs.Taking.{startsWith};
+ghost use Rattle.recognisers.specs.Taking.{starts_with};
 ghost use Rattle.recognisers.specs.Same.{same};
-ghost use Rattle.tokenizer.specs.KeyText.{unescaped, keyText};
-ghost use Rattle.params.specs.Keys.{hasKey, hasName};
-ghost use Rattle.params.specs.Inner.Inside.{keyEnd};
+ghost use Rattle.tokenizer.specs.KeyText.{unescaped, key_text};
+ghost use Rattle.params.specs.Keys.{has_key, has_name};
+ghost use Rattle.params.specs.Inner.Inside.{key_end};
 
 use recognisers::{Key, is_exactly, stands_at};
 
 // A backslash directly before the quote.
 fn is_escape(text: &[u8], i: usize, quote: u8) -> bool
     requires { i < length text.now }
-    ensures { result ≡ (eqb (get_or text.now i 0) (byte "\\") && startsWith quote (drop (i + 1) text.now)) }
+    ensures { result ≡ (eqb (get_or text.now i 0) (byte "\\") && starts_with quote (drop (i + 1) text.now)) }
 {
     let next = i + 1;
     if text[i] == b'\\' {
@@ -46,8 +46,8 @@ fn is_unescaped(name: &[u8], text: &[u8], quote: u8) -> bool
 }
 
 pub fn is_key_name(statement: &[u8], key: Key, name: &[u8]) -> bool
-    requires { keyEnd key ≤ length statement.now }
-    ensures { result ≡ same name.now (keyText statement.now key) }
+    requires { key_end key ≤ length statement.now }
+    ensures { result ≡ same name.now (key_text statement.now key) }
 {
     match key {
         Key::None => name.len() == 0,
@@ -71,8 +71,8 @@ fn text_length(text: &[u8]) -> usize
 }
 
 pub fn has_name(statement: &[u8], key: Key) -> bool
-    requires { keyEnd key ≤ length statement.now }
-    ensures { result ≡ hasName statement.now key }
+    requires { key_end key ≤ length statement.now }
+    ensures { result ≡ has_name statement.now key }
 {
     match key {
         Key::None => false,
@@ -90,7 +90,7 @@ pub fn has_name(statement: &[u8], key: Key) -> bool
 }
 
 pub fn has_key(key: Key) -> bool
-    ensures { result ≡ hasKey key }
+    ensures { result ≡ has_key key }
 {
     match key {
         Key::None => false,

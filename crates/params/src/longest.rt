@@ -1,7 +1,7 @@
 // The most that a filled text can have, known before the statement is read.
 ghost use Rattle.std.specs.Prelude.{◌≡◌, true, ◌≤◌, length};
-ghost use Rattle.params.specs.Sheet.{isSheet};
-ghost use Rattle.params.specs.Inner.Longest.{larger, longestValue, mostFilled};
+ghost use Rattle.params.specs.Sheet.{is_sheet};
+ghost use Rattle.params.specs.Inner.Longest.{larger, longest_value, most_filled};
 
 use crate::sheet::{count_of, first_place, lengths_at, place_past};
 
@@ -16,8 +16,8 @@ fn larger(a: usize, b: usize) -> usize
 
 // The length of the longest value, and 1 where none is longer: one look at each entry.
 fn longest_value(sheet: &[u8]) -> usize
-    requires { isSheet sheet.now ≡ true }
-    ensures { result ≡ longestValue sheet.now }
+    requires { is_sheet sheet.now ≡ true }
+    ensures { result ≡ longest_value sheet.now }
 {
     let count = count_of(sheet);
     let mut longest = 1;
@@ -33,8 +33,8 @@ fn longest_value(sheet: &[u8]) -> usize
 // Each token has a byte at least, and what stands for it is no longer than the token or than the longest value.
 pub fn most_filled(statement: &[u8], sheet: &[u8]) -> usize
     requires statement_len_bound { length statement.now ≤ 65536 }
-    requires sheet_value { isSheet sheet.now ≡ true }
-    ensures { result ≡ mostFilled statement.now sheet.now }
+    requires sheet_value { is_sheet sheet.now ≡ true }
+    ensures { result ≡ most_filled statement.now sheet.now }
 {
     statement.len() * longest_value(sheet)
 }

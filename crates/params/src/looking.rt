@@ -1,8 +1,8 @@
 // `lookup`: what stands for one token, handed back as a part of the statement or of the sheet.
 ghost use Rattle.std.specs.Prelude.{◌≡◌, true, ◌≤◌, length};
-ghost use Rattle.params.specs.Sheet.{isSheet};
-ghost use Rattle.params.specs.Inner.Inside.{keyEnd, PartInside};
-ghost use Rattle.params.specs.Answers.{nothingFound, foundFor, foundAt, lookupPart, lookupBytes, lookupStart, lookupCounter, lookupNumber, lookupDetail};
+ghost use Rattle.params.specs.Sheet.{is_sheet};
+ghost use Rattle.params.specs.Inner.Inside.{key_end, PartInside};
+ghost use Rattle.params.specs.Answers.{nothing_found, found_for, found_at, lookup_part, lookup_bytes, lookup_start, lookup_counter, lookup_number, lookup_detail};
 
 use crate::filling::check_with;
 use crate::getting::{params_past, stands_for};
@@ -15,7 +15,7 @@ use tokenizer::{Step, Token, at_start, next_step};
 
 // The empty start of the statement.
 fn nothing_found(counter: u64) -> Found
-    ensures { result ≡ nothingFound counter }
+    ensures { result ≡ nothing_found counter }
 {
     Found {
         part: Part::Statement { start: 0, len: 0 },
@@ -24,9 +24,9 @@ fn nothing_found(counter: u64) -> Found
 }
 
 fn found_for(statement: &[u8], sheet: &[u8], counter: u64, token: Token) -> Found
-    requires sheet_value { isSheet sheet.now ≡ true }
-    requires key_in_bounds { keyEnd token.key ≤ length statement.now }
-    ensures { result ≡ foundFor statement.now sheet.now counter token }
+    requires sheet_value { is_sheet sheet.now ≡ true }
+    requires key_in_bounds { key_end token.key ≤ length statement.now }
+    ensures { result ≡ found_for statement.now sheet.now counter token }
 {
     let params = params_at(sheet, counter);
     let part = stands_for(statement, sheet, params, token);
@@ -39,8 +39,8 @@ fn found_for(statement: &[u8], sheet: &[u8], counter: u64, token: Token) -> Foun
 }
 
 fn find(statement: &[u8], settings: Settings, sheet: &[u8], place: usize, counter: u64) -> Found
-    requires { isSheet sheet.now ≡ true }
-    ensures value { result ≡ foundAt settings statement.now sheet.now place counter }
+    requires { is_sheet sheet.now ≡ true }
+    ensures value { result ≡ found_at settings statement.now sheet.now place counter }
     ensures part_inside { PartInside statement.now sheet.now result.part }
 {
     let mut ahead = place;
@@ -74,11 +74,11 @@ pub fn lookup_part(
     number: &mut u64,
     detail: &mut u64,
 ) -> Part
-    ensures value { result ≡ lookupPart statement.now dialect joins named sheet.now place counter.old }
+    ensures value { result ≡ lookup_part statement.now dialect joins named sheet.now place counter.old }
     ensures part_inside { PartInside statement.now sheet.now result }
-    ensures counter_after { counter.new ≡ lookupCounter statement.now dialect joins named sheet.now place counter.old }
-    ensures number_after { number.new ≡ lookupNumber statement.now dialect joins named sheet.now }
-    ensures detail_after { detail.new ≡ lookupDetail statement.now dialect joins named sheet.now place counter.old }
+    ensures counter_after { counter.new ≡ lookup_counter statement.now dialect joins named sheet.now place counter.old }
+    ensures number_after { number.new ≡ lookup_number statement.now dialect joins named sheet.now }
+    ensures detail_after { detail.new ≡ lookup_detail statement.now dialect joins named sheet.now place counter.old }
 {
     match check_with(statement, dialect, joins, named, sheet) {
         Checked::Accepted(settings) => {
@@ -109,11 +109,11 @@ fn lookup_together<'a>(
     number: &mut u64,
     detail: &mut u64,
 ) -> &'a [u8]
-    ensures result_value { result.now ≡ lookupBytes statement.now dialect joins named sheet.now place counter.old }
-    ensures ref_ptr_value { result.ref_ptr ≡ lookupStart statement.entry dialect joins named sheet.entry place counter.old }
-    ensures counter_after { counter.new ≡ lookupCounter statement.now dialect joins named sheet.now place counter.old }
-    ensures number_after { number.new ≡ lookupNumber statement.now dialect joins named sheet.now }
-    ensures detail_after { detail.new ≡ lookupDetail statement.now dialect joins named sheet.now place counter.old }
+    ensures result_value { result.now ≡ lookup_bytes statement.now dialect joins named sheet.now place counter.old }
+    ensures ref_ptr_value { result.ref_ptr ≡ lookup_start statement.entry dialect joins named sheet.entry place counter.old }
+    ensures counter_after { counter.new ≡ lookup_counter statement.now dialect joins named sheet.now place counter.old }
+    ensures number_after { number.new ≡ lookup_number statement.now dialect joins named sheet.now }
+    ensures detail_after { detail.new ≡ lookup_detail statement.now dialect joins named sheet.now place counter.old }
 {
     let part = lookup_part(
         statement, dialect, joins, named, sheet, place, counter, number, detail,
@@ -133,11 +133,11 @@ pub fn lookup<'r, 's: 'r, 'v: 'r>(
     number: &mut u64,
     detail: &mut u64,
 ) -> &'r [u8]
-    ensures result_value { result.now ≡ lookupBytes statement.now dialect joins named sheet.now place counter.old }
-    ensures ref_ptr_value { result.ref_ptr ≡ lookupStart statement.entry dialect joins named sheet.entry place counter.old }
-    ensures counter_after { counter.new ≡ lookupCounter statement.now dialect joins named sheet.now place counter.old }
-    ensures number_after { number.new ≡ lookupNumber statement.now dialect joins named sheet.now }
-    ensures detail_after { detail.new ≡ lookupDetail statement.now dialect joins named sheet.now place counter.old }
+    ensures result_value { result.now ≡ lookup_bytes statement.now dialect joins named sheet.now place counter.old }
+    ensures ref_ptr_value { result.ref_ptr ≡ lookup_start statement.entry dialect joins named sheet.entry place counter.old }
+    ensures counter_after { counter.new ≡ lookup_counter statement.now dialect joins named sheet.now place counter.old }
+    ensures number_after { number.new ≡ lookup_number statement.now dialect joins named sheet.now }
+    ensures detail_after { detail.new ≡ lookup_detail statement.now dialect joins named sheet.now place counter.old }
 {
     let near: &'r [u8] = statement;
     let far: &'r [u8] = sheet;

@@ -1,11 +1,11 @@
 // Where entries stand in a sheet, and the values that they hold.
 ghost use Rattle.std.specs.Prelude.{◌≡◌, true, ◌+◌, ◌≤◌, ◌<◌, length};
 ghost use Rattle.recognisers.specs.Same.{same};
-ghost use Rattle.tokenizer.specs.KeyText.{keyText};
-ghost use Rattle.params.specs.Sheet.{countOf, width, lengthsAt, placeOf, nameAt, isSheet};
-ghost use Rattle.params.specs.Inner.Inside.{keyEnd};
-ghost use Rattle.params.specs.Get.{withName, ownText, valueOr, countedOn};
-ghost use Rattle.params.specs.Inner.Carried.{paramsAt};
+ghost use Rattle.tokenizer.specs.KeyText.{key_text};
+ghost use Rattle.params.specs.Sheet.{count_of, width, lengths_at, place_of, name_at, is_sheet};
+ghost use Rattle.params.specs.Inner.Inside.{key_end};
+ghost use Rattle.params.specs.Get.{with_name, own_text, value_or, counted_on};
+ghost use Rattle.params.specs.Inner.Carried.{params_at};
 
 use crate::keys::is_key_name;
 use crate::sheet::{count_of, first_place, lengths_at, place_past};
@@ -15,9 +15,9 @@ use tokenizer::Token;
 
 // The place of an entry by its number: one look at each entry before it.
 fn place_of(sheet: &[u8], n: usize) -> Place
-    requires sheet_value { isSheet sheet.now ≡ true }
-    requires n_bound { n ≤ countOf sheet.now }
-    ensures { result ≡ placeOf sheet.now n }
+    requires sheet_value { is_sheet sheet.now ≡ true }
+    requires n_bound { n ≤ count_of sheet.now }
+    ensures { result ≡ place_of sheet.now n }
 {
     let mut place = first_place(sheet);
     while place.entry < n {
@@ -27,10 +27,10 @@ fn place_of(sheet: &[u8], n: usize) -> Place
 }
 
 fn is_named_at(statement: &[u8], key: Key, sheet: &[u8], place: Place) -> bool
-    requires key_in_bounds { keyEnd key ≤ length statement.now }
+    requires key_in_bounds { key_end key ≤ length statement.now }
     requires sheet_in_bounds { place.lengths + width sheet.now ≤ length sheet.now }
-    requires place_in_bounds { place.body + (lengthsAt sheet.now place).name ≤ length sheet.now }
-    ensures { result ≡ same (nameAt sheet.now place) (keyText statement.now key) }
+    requires place_in_bounds { place.body + (lengths_at sheet.now place).name ≤ length sheet.now }
+    ensures { result ≡ same (name_at sheet.now place) (key_text statement.now key) }
 {
     let lengths = lengths_at(sheet, place);
     let start = place.body;
@@ -41,9 +41,9 @@ fn is_named_at(statement: &[u8], key: Key, sheet: &[u8], place: Place) -> bool
 // The place of the first entry with the key's text as its name, else the place behind the last: one look at each entry before
 // it and at its name.
 pub fn place_named(statement: &[u8], key: Key, sheet: &[u8]) -> Place
-    requires sheet_value { isSheet sheet.now ≡ true }
-    requires key_in_bounds { keyEnd key ≤ length statement.now }
-    ensures { result ≡ placeOf sheet.now (withName sheet.now (keyText statement.now key)) }
+    requires sheet_value { is_sheet sheet.now ≡ true }
+    requires key_in_bounds { key_end key ≤ length statement.now }
+    ensures { result ≡ place_of sheet.now (with_name sheet.now (key_text statement.now key)) }
 {
     let count = count_of(sheet);
     let mut place = first_place(sheet);
@@ -57,7 +57,7 @@ pub fn place_named(statement: &[u8], key: Key, sheet: &[u8]) -> Place
 }
 
 pub fn own_text(token: Token) -> Part
-    ensures { result ≡ ownText token }
+    ensures { result ≡ own_text token }
 {
     Part::Statement {
         start: token.start,
@@ -67,9 +67,9 @@ pub fn own_text(token: Token) -> Part
 
 // The value of the entry at a place, or the token's text behind the last entry.
 pub fn value_at(sheet: &[u8], place: Place, token: Token) -> Part
-    requires sheet_value { isSheet sheet.now ≡ true }
-    requires place_value { place ≡ placeOf sheet.now place.entry }
-    ensures { result ≡ valueOr sheet.now place.entry token }
+    requires sheet_value { is_sheet sheet.now ≡ true }
+    requires place_value { place ≡ place_of sheet.now place.entry }
+    ensures { result ≡ value_or sheet.now place.entry token }
 {
     if place.entry < count_of(sheet) {
         let lengths = lengths_at(sheet, place);
@@ -83,8 +83,8 @@ pub fn value_at(sheet: &[u8], place: Place, token: Token) -> Part
 
 // The value of an entry by its number, or the token's text where there is no such entry.
 pub fn value_numbered(sheet: &[u8], n: u64, token: Token) -> Part
-    requires { isSheet sheet.now ≡ true }
-    ensures { result ≡ valueOr sheet.now n token }
+    requires { is_sheet sheet.now ≡ true }
+    ensures { result ≡ value_or sheet.now n token }
 {
     let number = n as usize;
     if number < count_of(sheet) {
@@ -95,8 +95,8 @@ pub fn value_numbered(sheet: &[u8], n: u64, token: Token) -> Part
 
 // The counter at a number, and the value that is next in turn there.
 pub fn params_at(sheet: &[u8], index: u64) -> Params
-    requires { isSheet sheet.now ≡ true }
-    ensures { result ≡ paramsAt sheet.now index }
+    requires { is_sheet sheet.now ≡ true }
+    ensures { result ≡ params_at sheet.now index }
 {
     let count = count_of(sheet);
     let number = index as usize;
@@ -114,9 +114,9 @@ pub fn params_at(sheet: &[u8], index: u64) -> Params
 
 // One value further: one look at one entry.
 pub fn params_next(sheet: &[u8], params: Params) -> Params
-    requires sheet_value { isSheet sheet.now ≡ true }
-    requires params_value { params ≡ paramsAt sheet.now params.index }
-    ensures { result ≡ paramsAt sheet.now (countedOn params.index) }
+    requires sheet_value { is_sheet sheet.now ≡ true }
+    requires params_value { params ≡ params_at sheet.now params.index }
+    ensures { result ≡ params_at sheet.now (counted_on params.index) }
 {
     let index = params.index;
     let next = params.next;

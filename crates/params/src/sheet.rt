@@ -1,7 +1,7 @@
 // The value sheet: what its contents tell, and whether it is well formed.
 ghost use Rattle.std.specs.Prelude.{◌≡◌, true, ◌&&◌, ◌+◌, ◌≤◌, ◌<◌, leb, length};
-ghost use Rattle.characters.specs.Utf8.{wellFormed};
-ghost use Rattle.params.specs.Sheet.{paramsOf, countOf, isNamed, width, lengthsAt, past, placeOf, nameAt, valueAt, bodiesAreUtf8, fillsExactly, isKindAndCount, isSheet};
+ghost use Rattle.characters.specs.Utf8.{well_formed};
+ghost use Rattle.params.specs.Sheet.{params_of, count_of, is_named, width, lengths_at, past, place_of, name_at, value_at, bodies_are_utf8, fills_exactly, is_kind_and_count, is_sheet};
 
 use crate::{Lengths, Place, QueryParams};
 use calls::le16_at;
@@ -9,7 +9,7 @@ use characters::{IllFormed, first_ill_formed};
 
 pub fn params_of(sheet: &[u8]) -> QueryParams
     requires { 0 < length sheet.now }
-    ensures { result ≡ paramsOf sheet.now }
+    ensures { result ≡ params_of sheet.now }
 {
     if sheet[0] == 1 {
         return QueryParams::Named;
@@ -22,7 +22,7 @@ pub fn params_of(sheet: &[u8]) -> QueryParams
 
 pub fn count_of(sheet: &[u8]) -> usize
     requires { 2 < length sheet.now }
-    ensures value { result ≡ countOf sheet.now }
+    ensures value { result ≡ count_of sheet.now }
     ensures upper_bound { result < 65536 }
 {
     le16_at(sheet, 1)
@@ -30,7 +30,7 @@ pub fn count_of(sheet: &[u8]) -> usize
 
 fn is_named(sheet: &[u8]) -> bool
     requires { 0 < length sheet.now }
-    ensures { result ≡ isNamed sheet.now }
+    ensures { result ≡ is_named sheet.now }
 {
     sheet[0] == 1
 }
@@ -48,7 +48,7 @@ fn width_of(sheet: &[u8]) -> usize
 
 pub fn lengths_at(sheet: &[u8], place: Place) -> Lengths
     requires { place.lengths + width sheet.now ≤ length sheet.now }
-    ensures value { result ≡ lengthsAt sheet.now place }
+    ensures value { result ≡ lengths_at sheet.now place }
     ensures name_bound { result.name < 65536 }
     ensures value_bound { result.value < 65536 }
 {
@@ -67,7 +67,7 @@ pub fn lengths_at(sheet: &[u8], place: Place) -> Lengths
 
 pub fn first_place(sheet: &[u8]) -> Place
     requires { 2 < length sheet.now }
-    ensures { result ≡ placeOf sheet.now 0 }
+    ensures { result ≡ place_of sheet.now 0 }
 {
     Place {
         entry: 0,
@@ -91,7 +91,7 @@ pub fn place_past(sheet: &[u8], place: Place) -> Place
 }
 
 fn is_utf8(bytes: &[u8]) -> bool
-    ensures { result ≡ wellFormed bytes.now }
+    ensures { result ≡ well_formed bytes.now }
 {
     match first_ill_formed(bytes) {
         IllFormed::At(_) => false,
@@ -103,7 +103,7 @@ fn is_utf8(bytes: &[u8]) -> bool
 fn has_bodies(sheet: &[u8], place: Place) -> bool
     requires body_bound { place.body ≤ 65536 }
     requires sheet_in_bounds { place.lengths + width sheet.now ≤ length sheet.now }
-    ensures { result ≡ (leb (past sheet.now place).body (length sheet.now) && (wellFormed (nameAt sheet.now place) && wellFormed (valueAt sheet.now place))) }
+    ensures { result ≡ (leb (past sheet.now place).body (length sheet.now) && (well_formed (name_at sheet.now place) && well_formed (value_at sheet.now place))) }
 {
     let lengths = lengths_at(sheet, place);
     let start = place.body;
@@ -122,7 +122,7 @@ fn has_bodies(sheet: &[u8], place: Place) -> bool
 fn bodies_fill(sheet: &[u8]) -> bool
     requires in_bounds { 2 < length sheet.now }
     requires sheet_len_bound { length sheet.now ≤ 65536 }
-    ensures { result ≡ (fillsExactly sheet.now && bodiesAreUtf8 sheet.now (countOf sheet.now)) }
+    ensures { result ≡ (fills_exactly sheet.now && bodies_are_utf8 sheet.now (count_of sheet.now)) }
 {
     let count = count_of(sheet);
     let mut place = first_place(sheet);
@@ -141,7 +141,7 @@ fn bodies_fill(sheet: &[u8]) -> bool
 
 fn is_kind_and_count(sheet: &[u8]) -> bool
     requires { 2 < length sheet.now }
-    ensures { result ≡ isKindAndCount sheet.now }
+    ensures { result ≡ is_kind_and_count sheet.now }
 {
     if 2 < sheet[0] {
         return false;
@@ -153,7 +153,7 @@ fn is_kind_and_count(sheet: &[u8]) -> bool
 }
 
 pub fn is_sheet(sheet: &[u8]) -> bool
-    ensures { result ≡ isSheet sheet.now }
+    ensures { result ≡ is_sheet sheet.now }
 {
     if sheet.len() < 3 {
         return false;

@@ -11,52 +11,52 @@ use lib.ListN.{length, take, drop, get_or, drop_of_length-le}
 use lib.Seq.{drop-cons, length-take-le}
 use lib.Dec.{leb, eqb}
 use borrow.Author.Tests.{le-leb, eq-eqb, ne_eqb}
-use Rattle.recognisers.specs.Taking.{count, contains, startsWith}
+use Rattle.recognisers.specs.Taking.{count, contains, starts_with}
 
 -- ---- how many pass a test
 
-pub count-inside : (test : ℕ → Bool) (s : List ℕ) → count test s ≤ length s
+pub count_inside : (test : ℕ → Bool) (s : List ℕ) → count test s ≤ length s
 unfolding count
-count-inside test [] = zero-le
-count-inside test (b ∷ s) = go (test b) (count-inside test s)
+count_inside test [] = zero-le
+count_inside test (b ∷ s) = go (test b) (count_inside test s)
   where
     go : (t : Bool) → count test s ≤ length s → cond t (suc (count test s)) 0 ≤ suc (length s)
     go true h = suc-le-suc h
     go false h = zero-le
 
 -- of the first n
-count-take : (test : ℕ → Bool) (n : ℕ) (s : List ℕ) → count test (take n s) ≡ min (count test s) n
+count_take : (test : ℕ → Bool) (n : ℕ) (s : List ℕ) → count test (take n s) ≡ min (count test s) n
 unfolding count
-count-take test zero s = sym (min-zero (count test s))
-count-take test (suc n) [] = sym (zero-min (suc n))
-count-take test (suc n) (b ∷ s) = go (test b) (count-take test n s)
+count_take test zero s = sym (min-zero (count test s))
+count_take test (suc n) [] = sym (zero-min (suc n))
+count_take test (suc n) (b ∷ s) = go (test b) (count_take test n s)
   where
     go : (t : Bool) → count test (take n s) ≡ min (count test s) n → cond t (suc (count test (take n s))) 0 ≡ min (cond t (suc (count test s)) 0) (suc n)
     go true h = ap suc h ∙ sym (suc-min-suc (count test s) n)
     go false h = sym (zero-min (suc n))
 
-pub first-long : (k : ℕ) (s : List ℕ) → k ≤ length s → k ≡ length (take k s)
-first-long k s h = sym (length-take-le k s h)
+pub first_long : (k : ℕ) (s : List ℕ) → k ≤ length s → k ≡ length (take k s)
+first_long k s h = sym (length-take-le k s h)
 
 -- the first few of them
 module _ (k : ℕ) (s : List ℕ) (n : ℕ) (e : n ≡ min (length s) k) where
-  pub few-long : n ≡ length (take n s)
-  few-long = first-long n s (rw e (min-le_left (length s) k))
+  pub few_long : n ≡ length (take n s)
+  few_long = first_long n s (rw e (min-le_left (length s) k))
 
-  pub count-few : (test : ℕ → Bool) (r : ℕ) → r ≡ count test (take n s) → r ≡ min (count test s) k
-  count-few test r f = f ∙ (count-take test n s ∙ (let h = count-inside test s in let z : min (count test s) n ≡ min (count test s) k = omega arith in z))
+  pub count_few : (test : ℕ → Bool) (r : ℕ) → r ≡ count test (take n s) → r ≡ min (count test s) k
+  count_few test r f = f ∙ (count_take test n s ∙ (let h = count_inside test s in let z : min (count test s) n ≡ min (count test s) k = omega arith in z))
 
 -- whether there is one
 module _ (test : ℕ → Bool) where
-  pub none-counted : (s : List ℕ) → length s ≡ 0 → false ≡ leb 1 (count test s)
+  pub none_counted : (s : List ℕ) → length s ≡ 0 → false ≡ leb 1 (count test s)
   unfolding count
-  none-counted [] e = refl
-  none-counted (b ∷ s) e = absurd (let z : ⊥ = omega arith in z)
+  none_counted [] e = refl
+  none_counted (b ∷ s) e = absurd (let z : ⊥ = omega arith in z)
 
-  pub first-counted : (s : List ℕ) (r : Bool) → (length s ≡ 0 → ⊥) → r ≡ test (get_or s 0 0) → r ≡ leb 1 (count test s)
+  pub first_counted : (s : List ℕ) (r : Bool) → (length s ≡ 0 → ⊥) → r ≡ test (get_or s 0 0) → r ≡ leb 1 (count test s)
   unfolding count
-  first-counted [] r n e = absurd (n refl)
-  first-counted (b ∷ s) r n e = e ∙ go (test b)
+  first_counted [] r n e = absurd (n refl)
+  first_counted (b ∷ s) r n e = e ∙ go (test b)
     where
       go : (t : Bool) → t ≡ leb 1 (cond t (suc (count test s)) 0)
       go true = sym (le-leb 1 (suc (count test s)) (suc-le-suc zero-le))
@@ -80,25 +80,25 @@ module _ (test : ℕ → Bool) where
     pub same : count test s ≡ i + count test (drop i s)
 
   module _ (s : List ℕ) where
-    pub count-start : CountAt s 0
-    count-start = record { inside = zero-le; same = sym (zero-add (count test s)) }
+    pub count_start : CountAt s 0
+    count_start = record { inside = zero-le; same = sym (zero-add (count test s)) }
 
     module _ (i : ℕ) (r : Bool) (at : CountAt s i) (h : i < length s) (c : r ≡ test (get_or s i 0)) where
-      pub count-more : r ≡ true → CountAt s (i + 1)
+      pub count_more : r ≡ true → CountAt s (i + 1)
       unfolding count
-      count-more t =
+      count_more t =
           record {
             inside = omega arith;
             same = at.same ∙ rw (drop-cons s i 0 h, ← c, t, add-one) (add-suc i (count test (drop (suc i) s)) ∙ sym (suc-add i (count test (drop (suc i) s))));
           }
 
-      pub count-stop : r ≡ false → i ≡ count test s
+      pub count_stop : r ≡ false → i ≡ count test s
       unfolding count
-      count-stop t = sym (at.same ∙ rw (drop-cons s i 0 h, ← c, t) (add-zero i))
+      count_stop t = sym (at.same ∙ rw (drop-cons s i 0 h, ← c, t) (add-zero i))
 
-    pub count-end : (i : ℕ) → CountAt s i → length s ≤ i → i ≡ count test s
+    pub count_end : (i : ℕ) → CountAt s i → length s ≤ i → i ≡ count test s
     unfolding count
-    count-end i at h = sym (at.same ∙ rw (drop_of_length-le s h) (add-zero i))
+    count_end i at h = sym (at.same ∙ rw (drop_of_length-le s h) (add-zero i))
 
 -- ---- a byte among some
 
@@ -107,33 +107,33 @@ module _ (s : List ℕ) (b : ℕ) where
     pub inside : i ≤ length s
     pub same : contains (drop i s) b ≡ contains s b
 
-  pub among-start : AmongAt 0
-  among-start = record { inside = zero-le; same = refl }
+  pub among_start : AmongAt 0
+  among_start = record { inside = zero-le; same = refl }
 
   module _ (i : ℕ) (at : AmongAt i) where
-    pub among-here : i < length s → b ≡ get_or s i 0 → true ≡ contains s b
+    pub among_here : i < length s → b ≡ get_or s i 0 → true ≡ contains s b
     unfolding contains
-    among-here h e = rw (drop-cons s i 0 h, eq-eqb b (get_or s i 0) e) at at.same
+    among_here h e = rw (drop-cons s i 0 h, eq-eqb b (get_or s i 0) e) at at.same
 
-    pub among-next : i < length s → (b ≡ get_or s i 0 → ⊥) → AmongAt (i + 1)
+    pub among_next : i < length s → (b ≡ get_or s i 0 → ⊥) → AmongAt (i + 1)
     unfolding contains
-    among-next h e =
+    among_next h e =
         record {
           inside = omega arith;
           same = rw (add-one i) (rw (drop-cons s i 0 h, ne_eqb b (get_or s i 0) e) at at.same);
         }
 
-    pub among-none : length s ≤ i → false ≡ contains s b
+    pub among_none : length s ≤ i → false ≡ contains s b
     unfolding contains
-    among-none h = rw (drop_of_length-le s h) at at.same
+    among_none h = rw (drop_of_length-le s h) at at.same
 
 -- ---- the byte at i
 
 module _ (s : List ℕ) (i b : ℕ) where
-  pub stands : i < length s → eqb (get_or s i 0) b ≡ startsWith b (drop i s)
-  unfolding startsWith
+  pub stands : i < length s → eqb (get_or s i 0) b ≡ starts_with b (drop i s)
+  unfolding starts_with
   stands h = sym (rw (drop-cons s i 0 h))
 
-  pub stands-not : length s ≤ i → false ≡ startsWith b (drop i s)
-  unfolding startsWith
-  stands-not h = sym (rw (drop_of_length-le s h))
+  pub stands_not : length s ≤ i → false ≡ starts_with b (drop i s)
+  unfolding starts_with
+  stands_not h = sym (rw (drop_of_length-le s h))

@@ -12,60 +12,60 @@ use borrow.Author.Tests.{le-leb}
 use Rattle.recognisers.specs.declared.Taken.{Taken}
 use Rattle.recognisers.specs.declared.Taken.TheVariants.{Bytes, Fails}
 use Rattle.recognisers.specs.Text.{bytes}
-use Rattle.recognisers.specs.Taking.{Taker, more, or, done, one, typed, spelled, digit1, digit0, count, isDigit, atLeast, contains, startsAmong}
-use Rattle.recognisers.specs.Number.{decimalNumber, signedDigits, exponent, scientificNotation, unsigned}
-use Rattle.recognisers.proofs.ByteLoops.{count-inside}
-use Rattle.characters.proofs.Rests.{part-end}
-use Rattle.recognisers.proofs.TakenInside.{Inside, or-inside, done-inside, one-inside, spelled-inside, digit0-inside, digit1-inside}
+use Rattle.recognisers.specs.Taking.{Taker, more, or, done, one, typed, spelled, digit1, digit0, count, is_digit, at_least, contains, starts_among}
+use Rattle.recognisers.specs.Number.{decimal_number, signed_digits, exponent, scientific_notation, unsigned}
+use Rattle.recognisers.proofs.ByteLoops.{count_inside}
+use Rattle.characters.proofs.Rests.{part_end}
+use Rattle.recognisers.proofs.TakenInside.{Inside, or_inside, done_inside, one_inside, spelled_inside, digit0_inside, digit1_inside}
 
-module _ (then : Taker) (s : List ℕ) (n : ℕ) (e : n ≡ count isDigit s) where
-  pub digits-fit : n ≤ length s
-  digits-fit = rw e (count-inside isDigit s)
+module _ (then : Taker) (s : List ℕ) (n : ℕ) (e : n ≡ count is_digit s) where
+  pub digits_fit : n ≤ length s
+  digits_fit = rw e (count_inside is_digit s)
 
-  pub digit1-none : n ≡ 0 → Fails ≡ digit1 then s
+  pub digit1_none : n ≡ 0 → Fails ≡ digit1 then s
   unfolding digit1
-  digit1-none z = rw (← e, z)
+  digit1_none z = rw (← e, z)
 
-  pub digit1-then : (t q : Taken) → (n ≡ 0 → ⊥) → t ≡ then (take (length s - n) (drop n s)) → q ≡ more n t → q ≡ digit1 then s
+  pub digit1_then : (t q : Taken) → (n ≡ 0 → ⊥) → t ≡ then (take (length s - n) (drop n s)) → q ≡ more n t → q ≡ digit1 then s
   unfolding digit1
-  digit1-then t q z f g = g ∙ rw (← e, le-leb 1 n (omega arith), f, part-end s n)
+  digit1_then t q z f g = g ∙ rw (← e, le-leb 1 n (omega arith), f, part_end s n)
 
-  pub digit0-then : (t q : Taken) → t ≡ then (take (length s - n) (drop n s)) → q ≡ more n t → q ≡ digit0 then s
+  pub digit0_then : (t q : Taken) → t ≡ then (take (length s - n) (drop n s)) → q ≡ more n t → q ≡ digit0 then s
   unfolding digit0
-  digit0-then t q f g = g ∙ rw (← e, f, part-end s n)
+  digit0_then t q f g = g ∙ rw (← e, f, part_end s n)
 
-module _ (s : List ℕ) (n : ℕ) (e : n ≡ count isDigit s) where
-  pub digits-alone : (q : Taken) → q ≡ atLeast 1 n → q ≡ digit1 done s
+module _ (s : List ℕ) (n : ℕ) (e : n ≡ count is_digit s) where
+  pub digits_alone : (q : Taken) → q ≡ at_least 1 n → q ≡ digit1 done s
   unfolding digit1
-  digits-alone q g = g ∙ rw (← e) (ap (λ (m : ℕ). cond (leb 1 n) (Bytes m) Fails) (sym (add-zero n)))
+  digits_alone q g = g ∙ rw (← e) (ap (λ (m : ℕ). cond (leb 1 n) (Bytes m) Fails) (sym (add-zero n)))
 
-  pub digits-or-none : (q : Taken) → q ≡ more n (Bytes 0) → q ≡ digit0 done s
+  pub digits_or_none : (q : Taken) → q ≡ more n (Bytes 0) → q ≡ digit0 done s
   unfolding digit0
-  digits-or-none q g = g ∙ rw (← e)
+  digits_or_none q g = g ∙ rw (← e)
 
-module _ (then : Taker) (m s : List ℕ) (r : Bool) (e : r ≡ startsAmong m s) where
-  pub marked-fits : r ≡ true → 1 ≤ length s
-  unfolding startsAmong
-  marked-fits t = go s (sym e ∙ t)
+module _ (then : Taker) (m s : List ℕ) (r : Bool) (e : r ≡ starts_among m s) where
+  pub marked_fits : r ≡ true → 1 ≤ length s
+  unfolding starts_among
+  marked_fits t = go s (sym e ∙ t)
     where
-      go : (u : List ℕ) → startsAmong m u ≡ true → 1 ≤ length u
+      go : (u : List ℕ) → starts_among m u ≡ true → 1 ≤ length u
       go [] q = absurd (false≢true q)
       go (b ∷ u) q = suc-le-suc zero-le
 
-  pub marked-then : (t q : Taken) → r ≡ true → t ≡ then (take (length s - 1) (drop 1 s)) → q ≡ more 1 t → q ≡ one (contains m) then s
-  unfolding one startsAmong
-  marked-then t q y f g = go s refl
+  pub marked_then : (t q : Taken) → r ≡ true → t ≡ then (take (length s - 1) (drop 1 s)) → q ≡ more 1 t → q ≡ one (contains m) then s
+  unfolding one starts_among
+  marked_then t q y f g = go s refl
     where
       go : (u : List ℕ) → s ≡ u → q ≡ one (contains m) then s
       go [] w = absurd (false≢true (rw w at (sym e ∙ y)))
       go (b ∷ u) w =
           let c : contains m b ≡ true = rw w at (sym e ∙ y) in
-          let f' : t ≡ then (drop 1 s) = f ∙ rw (part-end s 1) in
+          let f' : t ≡ then (drop 1 s) = f ∙ rw (part_end s 1) in
           rw w (g ∙ rw (c, f', w))
 
-  pub marked-not : r ≡ false → Fails ≡ one (contains m) then s
-  unfolding one startsAmong
-  marked-not y = go s refl
+  pub marked_not : r ≡ false → Fails ≡ one (contains m) then s
+  unfolding one starts_among
+  marked_not y = go s refl
     where
       go : (u : List ℕ) → s ≡ u → Fails ≡ one (contains m) then s
       go [] w = rw w
@@ -73,42 +73,42 @@ module _ (then : Taker) (m s : List ℕ) (r : Bool) (e : r ≡ startsAmong m s) 
 
 -- ---- the start
 
-pub among-at-start : (m s : List ℕ) (r : Bool) → (length s ≡ 0 → ⊥) → r ≡ contains m (get_or s 0 0) → r ≡ startsAmong m s
-unfolding startsAmong
-among-at-start m [] r n e = absurd (n refl)
-among-at-start m (b ∷ s) r n e = e
+pub among_at_start : (m s : List ℕ) (r : Bool) → (length s ≡ 0 → ⊥) → r ≡ contains m (get_or s 0 0) → r ≡ starts_among m s
+unfolding starts_among
+among_at_start m [] r n e = absurd (n refl)
+among_at_start m (b ∷ s) r n e = e
 
-pub among-nothing : (m s : List ℕ) → length s ≡ 0 → false ≡ startsAmong m s
-unfolding startsAmong
-among-nothing m [] n = refl
-among-nothing m (b ∷ s) n = absurd (let z : ⊥ = omega arith in z)
+pub among_nothing : (m s : List ℕ) → length s ≡ 0 → false ≡ starts_among m s
+unfolding starts_among
+among_nothing m [] n = refl
+among_nothing m (b ∷ s) n = absurd (let z : ⊥ = omega arith in z)
 
 -- ---- inside
 
-pub digits-inside : Inside (digit1 done)
-digits-inside = digit1-inside done done-inside
+pub digits_inside : Inside (digit1 done)
+digits_inside = digit1_inside done done_inside
 
-pub signed-inside : Inside signedDigits
-unfolding signedDigits
-signed-inside s =
-    or-inside (one (contains (bytes "-+")) (digit1 done) s) (digit1 done s) (length s)
-    (one-inside (contains (bytes "-+")) (digit1 done) digits-inside s)
-    (digits-inside s)
+pub signed_inside : Inside signed_digits
+unfolding signed_digits
+signed_inside s =
+    or_inside (one (contains (bytes "-+")) (digit1 done) s) (digit1 done s) (length s)
+    (one_inside (contains (bytes "-+")) (digit1 done) digits_inside s)
+    (digits_inside s)
 
-pub exponent-inside : Inside exponent
+pub exponent_inside : Inside exponent
 unfolding exponent
-exponent-inside s = spelled-inside typed (bytes "e") signedDigits signed-inside s
+exponent_inside s = spelled_inside typed (bytes "e") signed_digits signed_inside s
 
-pub fraction-inside : (then : Taker) → Inside then → Inside (spelled typed (bytes ".") (digit0 then))
-fraction-inside then h = spelled-inside typed (bytes ".") (digit0 then) (digit0-inside then h)
+pub fraction_inside : (then : Taker) → Inside then → Inside (spelled typed (bytes ".") (digit0 then))
+fraction_inside then h = spelled_inside typed (bytes ".") (digit0 then) (digit0_inside then h)
 
-pub decimal-inside : (then : Taker) → Inside then → Inside (decimalNumber then)
-unfolding decimalNumber
-decimal-inside then h = digit1-inside (spelled typed (bytes ".") (digit0 then)) (fraction-inside then h)
+pub decimal_inside : (then : Taker) → Inside then → Inside (decimal_number then)
+unfolding decimal_number
+decimal_inside then h = digit1_inside (spelled typed (bytes ".") (digit0 then)) (fraction_inside then h)
 
-pub unsigned-inside : Inside unsigned
-unfolding unsigned scientificNotation
-unsigned-inside s =
-    or-inside (or (decimalNumber exponent s) (digit1 exponent s)) (or (decimalNumber done s) (digit1 done s)) (length s)
-    (or-inside (decimalNumber exponent s) (digit1 exponent s) (length s) (decimal-inside exponent exponent-inside s) (digit1-inside exponent exponent-inside s))
-    (or-inside (decimalNumber done s) (digit1 done s) (length s) (decimal-inside done done-inside s) (digits-inside s))
+pub unsigned_inside : Inside unsigned
+unfolding unsigned scientific_notation
+unsigned_inside s =
+    or_inside (or (decimal_number exponent s) (digit1 exponent s)) (or (decimal_number done s) (digit1 done s)) (length s)
+    (or_inside (decimal_number exponent s) (digit1 exponent s) (length s) (decimal_inside exponent exponent_inside s) (digit1_inside exponent exponent_inside s))
+    (or_inside (decimal_number done s) (digit1 done s) (length s) (decimal_inside done done_inside s) (digits_inside s))

@@ -10,10 +10,10 @@ use Rattle.recognisers.specs.declared.Key.TheVariants.{None, Named, Escaped}
 use Rattle.recognisers.specs.declared.TokenKind.TheVariants.{String, Placeholder}
 use Rattle.recognisers.specs.declared.Recognised.TheVariants.{Token}
 use Rattle.recognisers.specs.Text.{bytes}
-use Rattle.recognisers.specs.Taking.{one, spelled, typed, contains, startsWith, startsAmong}
-use Rattle.recognisers.specs.Pieces.{quotePiece}
-use Rattle.recognisers.specs.Strings.{takeTillEscaping, pairsPassed, closedBy, hexTaken, quotedTaken, stringTaken, pairsIn, stringPairs, getStringToken, placeholderQuotedTaken, placeholderStringTaken, placeholderStringPairs}
-use Rattle.recognisers.specs.Placeholder.{hasEscape, stringKey, stringNamedTaken, stringNamedPairs, getStringNamedPlaceholderToken}
+use Rattle.recognisers.specs.Taking.{one, spelled, typed, contains, starts_with, starts_among}
+use Rattle.recognisers.specs.Pieces.{quote_piece}
+use Rattle.recognisers.specs.Strings.{take_till_escaping, pairs_passed, closed_by, hex_taken, quoted_taken, string_taken, pairs_in, string_pairs, get_string_token, placeholder_quoted_taken, placeholder_string_taken, placeholder_string_pairs}
+use Rattle.recognisers.specs.Placeholder.{has_escape, string_key, string_named_taken, string_named_pairs, get_string_named_placeholder_token}
 
 -- a string, how many bytes it takes, and how many of its quotes are escaped
 pub strings : List (Dialect × List ℕ × ℕ × ℕ)
@@ -27,9 +27,9 @@ strings =
     ∷ (SQLServer, bytes "[a]]b]", 6, 1)
     ∷ []
 
-pub strings-counted : map (λ w. getStringToken w.0 w.1) strings ≡ map (λ w. Token (quotePiece String w.2 None w.3)) strings
-unfolding strings one spelled typed contains startsWith startsAmong takeTillEscaping pairsPassed closedBy hexTaken quotedTaken stringTaken pairsIn stringPairs getStringToken
-strings-counted = refl
+pub strings_counted : map (λ w. get_string_token w.0 w.1) strings ≡ map (λ w. Token (quote_piece String w.2 None w.3)) strings
+unfolding strings one spelled typed contains starts_with starts_among take_till_escaping pairs_passed closed_by hex_taken quoted_taken string_taken pairs_in string_pairs get_string_token
+strings_counted = refl
 
 -- the same of string placeholders, with their keys; `@'a''` is `@'a'`, and then a quote
 pub placeholders : List (Dialect × List ℕ × ℕ × Key × ℕ)
@@ -41,6 +41,6 @@ placeholders =
     ∷ (Generic, bytes "@N'a'", 5, Named 2 2, 0)
     ∷ []
 
-pub placeholders-counted : map (λ w. getStringNamedPlaceholderToken w.0 w.1) placeholders ≡ map (λ w. Token (quotePiece Placeholder w.2 w.3 w.4)) placeholders
-unfolding placeholders one spelled typed contains startsWith startsAmong takeTillEscaping pairsPassed closedBy placeholderQuotedTaken placeholderStringTaken pairsIn placeholderStringPairs hasEscape stringKey stringNamedTaken stringNamedPairs getStringNamedPlaceholderToken
-placeholders-counted = refl
+pub placeholders_counted : map (λ w. get_string_named_placeholder_token w.0 w.1) placeholders ≡ map (λ w. Token (quote_piece Placeholder w.2 w.3 w.4)) placeholders
+unfolding placeholders one spelled typed contains starts_with starts_among take_till_escaping pairs_passed closed_by placeholder_quoted_taken placeholder_string_taken pairs_in placeholder_string_pairs has_escape string_key string_named_taken string_named_pairs get_string_named_placeholder_token
+placeholders_counted = refl

@@ -8,15 +8,15 @@ use mathlib.Core.Bool.{Bool, true, false, cond, not, ◌||◌, false≢true}
 use lib.ListN.{drop}
 use lib.Dec.{leb, ltb, eqb}
 use borrow.Author.Tests.{ltb-true, ltb-false, eqb-true}
-use Rattle.characters.specs.Ranges.{within, inRanges}
-use Rattle.characters.specs.WhiteSpace.{whiteSpace}
-use Rattle.characters.specs.Character.{codePoint}
-use Rattle.characters.specs.Classes.{isWhitespace}
+use Rattle.characters.specs.Ranges.{within, in_ranges}
+use Rattle.characters.specs.WhiteSpace.{white_space}
+use Rattle.characters.specs.Character.{code_point}
+use Rattle.characters.specs.Classes.{is_whitespace}
 use Rattle.characters.specs.Runs.{run}
-use Rattle.characters.proofs.Below.{allBelow, below}
-use Rattle.characters.proofs.RunLaws.{ascii-first}
-use Rattle.characters.proofs.WhiteStarts.{white-none, white-two, white-three, white-four}
-use Rattle.characters.proofs.Within.{within-low, within-high}
+use Rattle.characters.proofs.Below.{all_below, below}
+use Rattle.characters.proofs.RunLaws.{ascii_first}
+use Rattle.characters.proofs.WhiteStarts.{white_none, white_two, white_three, white_four}
+use Rattle.characters.proofs.Within.{within_low, within_high}
 use Rattle.recognisers.specs.declared.Dialect.{Dialect}
 use Rattle.recognisers.specs.declared.Dialect.TheVariants.{Generic, PostgreSql, SQLServer}
 use Rattle.recognisers.specs.declared.Taken.{Taken}
@@ -25,44 +25,44 @@ use Rattle.recognisers.specs.declared.TokenKind.TheVariants.{LineComment, BlockC
 use Rattle.recognisers.specs.declared.Recognised.{Recognised}
 use Rattle.recognisers.specs.declared.Recognised.TheVariants.{Token, Nothing}
 use Rattle.recognisers.specs.Text.{bytes}
-use Rattle.recognisers.specs.Taking.{Taker, more, or, done, one, spelled, typed, capital, literal, caseless, blanks, endOfWord, isDigit, count, digit1, contains, startsWith, startsAmong}
-use Rattle.recognisers.specs.Pieces.{tokenOf, alt}
-use Rattle.recognisers.specs.Comment.{tillLineEnding, throughBlockEnd, getCommentToken}
-use Rattle.recognisers.specs.TypeSpecifier.{getTypeSpecifierToken}
-use Rattle.recognisers.specs.Strings.{hexTaken, quotedTaken, stringTaken, getStringToken}
-use Rattle.recognisers.specs.Parens.{inPostgreSql, getOpenParenToken, getCloseParenToken}
-use Rattle.recognisers.specs.Words.{getWhitespaceToken}
-use Rattle.recognisers.specs.Number.{decimalNumber, scientificNotation, unsigned, getNumberToken}
-use Rattle.recognisers.specs.Placeholder.{indexedTaken, getIndexedPlaceholderToken, identTaken, getIdentNamedPlaceholderToken, bracedTaken, getBracedNamedPlaceholderToken, stringNamedTaken, getStringNamedPlaceholderToken, getPlaceholderToken}
+use Rattle.recognisers.specs.Taking.{Taker, more, or, done, one, spelled, typed, capital, literal, caseless, blanks, end_of_word, is_digit, count, digit1, contains, starts_with, starts_among}
+use Rattle.recognisers.specs.Pieces.{token_of, alt}
+use Rattle.recognisers.specs.Comment.{till_line_ending, through_block_end, get_comment_token}
+use Rattle.recognisers.specs.TypeSpecifier.{get_type_specifier_token}
+use Rattle.recognisers.specs.Strings.{hex_taken, quoted_taken, string_taken, get_string_token}
+use Rattle.recognisers.specs.Parens.{in_postgre_sql, get_open_paren_token, get_close_paren_token}
+use Rattle.recognisers.specs.Words.{get_whitespace_token}
+use Rattle.recognisers.specs.Number.{decimal_number, scientific_notation, unsigned, get_number_token}
+use Rattle.recognisers.specs.Placeholder.{indexed_taken, get_indexed_placeholder_token, ident_taken, get_ident_named_placeholder_token, braced_taken, get_braced_named_placeholder_token, string_named_taken, get_string_named_placeholder_token, get_placeholder_token}
 
 -- ---- a choice whose other part fails
 
-pub or-fails : (t : Taken) → t ≡ or t Fails
-or-fails (Bytes n) = refl
-or-fails Fails = refl
+pub or_fails : (t : Taken) → t ≡ or t Fails
+or_fails (Bytes n) = refl
+or_fails Fails = refl
 
-pub alt-nothing : (r : Recognised) → r ≡ alt r Nothing
-alt-nothing (Token p) = refl
-alt-nothing Nothing = refl
+pub alt_nothing : (r : Recognised) → r ≡ alt r Nothing
+alt_nothing (Token p) = refl
+alt_nothing Nothing = refl
 
 -- ---- a byte that is not among some
 
 module _ (ks : List ℕ) (b : ℕ) (n : contains ks b ≡ false) where
-  pub none-of : (k : ℕ) → contains ks k ≡ true → eqb b k ≡ false
-  none-of k c = go (eqb b k) refl
+  pub none_of : (k : ℕ) → contains ks k ≡ true → eqb b k ≡ false
+  none_of k c = go (eqb b k) refl
     where
       go : (t : Bool) → eqb b k ≡ t → t ≡ false
       go true q = absurd (false≢true (sym n ∙ (ap (contains ks) (eqb-true b k q) ∙ c)))
       go false q = refl
 
   -- nor does its capital stand there
-  pub no-capital : (k : ℕ) → contains ks k ≡ true → contains ks (k + 32) ≡ true → eqb (capital b) k ≡ false
+  pub no_capital : (k : ℕ) → contains ks k ≡ true → contains ks (k + 32) ≡ true → eqb (capital b) k ≡ false
   unfolding capital
-  no-capital k c d = go (within 0x61 0x7A b) refl
+  no_capital k c d = go (within 0x61 0x7A b) refl
     where
       low : within 0x61 0x7A b ≡ true → (t : Bool) → eqb (b - 0x20) k ≡ t → t ≡ false
       low w true q =
-          let h : 0x61 ≤ b = within-low 0x61 0x7A b w in
+          let h : 0x61 ≤ b = within_low 0x61 0x7A b w in
           let e : b - 0x20 ≡ k = eqb-true (b - 0x20) k q in
           let f : b ≡ k + 32 = omega arith in
           absurd (false≢true (sym n ∙ (ap (contains ks) f ∙ d)))
@@ -70,289 +70,289 @@ module _ (ks : List ℕ) (b : ℕ) (n : contains ks b ≡ false) where
 
       go : (t : Bool) → within 0x61 0x7A b ≡ t → eqb (cond t (b - 0x20) b) k ≡ false
       go true w = low w (eqb (b - 0x20) k) refl
-      go false w = none-of k c
+      go false w = none_of k c
 
 -- the byte at the start
-pub stands-first : (s : List ℕ) (k : ℕ) (p t : Bool) → p ≡ startsWith k (drop 0 s) → p ≡ t → startsWith k s ≡ t
-stands-first s k p t e q = sym e ∙ q
+pub stands_first : (s : List ℕ) (k : ℕ) (p t : Bool) → p ≡ starts_with k (drop 0 s) → p ≡ t → starts_with k s ≡ t
+stands_first s k p t e q = sym e ∙ q
 
 -- an opener of one byte
-pub opened : (k : ℕ) (then : Taker) (s : List ℕ) (r : Taken) → startsWith k s ≡ true → r ≡ more 1 (then (drop 1 s)) → r ≡ literal (k ∷ []) then s
-unfolding startsWith spelled one typed
+pub opened : (k : ℕ) (then : Taker) (s : List ℕ) (r : Taken) → starts_with k s ≡ true → r ≡ more 1 (then (drop 1 s)) → r ≡ literal (k ∷ []) then s
+unfolding starts_with spelled one typed
 opened k then [] r e f = absurd (false≢true e)
 opened k then (b ∷ s) r e f = f ∙ rw e
 
 -- ---- whitespace
 
-abbrev whiteStarts : List ℕ
-whiteStarts = 0x09 ∷ 0x0A ∷ 0x0B ∷ 0x0C ∷ 0x0D ∷ 0x20 ∷ 0xC0 ∷ 0xC2 ∷ 0xE0 ∷ 0xE1 ∷ 0xE2 ∷ 0xE3 ∷ 0xF0 ∷ []
+abbrev white_starts : List ℕ
+white_starts = 0x09 ∷ 0x0A ∷ 0x0B ∷ 0x0C ∷ 0x0D ∷ 0x20 ∷ 0xC0 ∷ 0xC2 ∷ 0xE0 ∷ 0xE1 ∷ 0xE2 ∷ 0xE3 ∷ 0xF0 ∷ []
 
-whites-among : allBelow (λ k. not (isWhitespace k) || contains whiteStarts k) 128 ≡ true
-unfolding contains isWhitespace inRanges within whiteSpace
-whites-among = refl
+whites_among : all_below (λ k. not (is_whitespace k) || contains white_starts k) 128 ≡ true
+unfolding contains is_whitespace in_ranges within white_space
+whites_among = refl
 
-module _ (b : ℕ) (s : List ℕ) (n : contains whiteStarts b ≡ false) where
+module _ (b : ℕ) (s : List ℕ) (n : contains white_starts b ≡ false) where
   -- it is none of them
-  is-no : (k : ℕ) → contains whiteStarts k ≡ true → b ≡ k → ⊥
-  is-no k c e = false≢true (sym n ∙ (ap (contains whiteStarts) e ∙ c))
+  is_no : (k : ℕ) → contains white_starts k ≡ true → b ≡ k → ⊥
+  is_no k c e = false≢true (sym n ∙ (ap (contains white_starts) e ∙ c))
 
-  ascii-no : b < 128 → isWhitespace (codePoint (b ∷ s)) ≡ false
-  ascii-no h = rw (ascii-first b s h) (go (isWhitespace b) refl (below (λ k. not (isWhitespace k) || contains whiteStarts k) 128 whites-among b h))
+  ascii_no : b < 128 → is_whitespace (code_point (b ∷ s)) ≡ false
+  ascii_no h = rw (ascii_first b s h) (go (is_whitespace b) refl (below (λ k. not (is_whitespace k) || contains white_starts k) 128 whites_among b h))
     where
-      go : (t : Bool) → isWhitespace b ≡ t → (not t || contains whiteStarts b) ≡ true → t ≡ false
+      go : (t : Bool) → is_whitespace b ≡ t → (not t || contains white_starts b) ≡ true → t ≡ false
       go true q f = absurd (false≢true (sym n ∙ f))
       go false q f = refl
 
-  wide-no : 128 ≤ b → isWhitespace (codePoint (b ∷ s)) ≡ false
+  wide_no : 128 ≤ b → is_whitespace (code_point (b ∷ s)) ≡ false
   unfolding contains
-  wide-no h = go (ltb b 0xC0) (ltb b 0xE0) (ltb b 0xF0) refl refl refl
+  wide_no h = go (ltb b 0xC0) (ltb b 0xE0) (ltb b 0xF0) refl refl refl
     where
-      go : (t u v : Bool) → ltb b 0xC0 ≡ t → ltb b 0xE0 ≡ u → ltb b 0xF0 ≡ v → isWhitespace (codePoint (b ∷ s)) ≡ false
-      go true u v p q r = white-none b s h (ltb-true b 0xC0 p)
-      go false true v p q r = white-two b (ltb-false b 0xC0 p) (ltb-true b 0xE0 q) (is-no 0xC0 refl) (is-no 0xC2 refl) s
+      go : (t u v : Bool) → ltb b 0xC0 ≡ t → ltb b 0xE0 ≡ u → ltb b 0xF0 ≡ v → is_whitespace (code_point (b ∷ s)) ≡ false
+      go true u v p q r = white_none b s h (ltb-true b 0xC0 p)
+      go false true v p q r = white_two b (ltb-false b 0xC0 p) (ltb-true b 0xE0 q) (is_no 0xC0 refl) (is_no 0xC2 refl) s
       go false false true p q r =
           let k : 0xE0 ≤ b = ltb-false b 0xE0 q in
-          let o : 0xE3 < b = omega (arith, is-no 0xE0 refl, is-no 0xE1 refl, is-no 0xE2 refl, is-no 0xE3 refl) in
-          white-three b o (ltb-true b 0xF0 r) s
+          let o : 0xE3 < b = omega (arith, is_no 0xE0 refl, is_no 0xE1 refl, is_no 0xE2 refl, is_no 0xE3 refl) in
+          white_three b o (ltb-true b 0xF0 r) s
       go false false false p q r =
           let k : 0xF0 ≤ b = ltb-false b 0xF0 r in
-          let o : 0xF0 < b = omega (arith, is-no 0xF0 refl) in
-          white-four b o s
+          let o : 0xF0 < b = omega (arith, is_no 0xF0 refl) in
+          white_four b o s
 
-  no-white : isWhitespace (codePoint (b ∷ s)) ≡ false
-  no-white = go (ltb b 128) refl
+  no_white : is_whitespace (code_point (b ∷ s)) ≡ false
+  no_white = go (ltb b 128) refl
     where
-      go : (t : Bool) → ltb b 128 ≡ t → isWhitespace (codePoint (b ∷ s)) ≡ false
-      go true q = ascii-no (ltb-true b 128 q)
-      go false q = wide-no (ltb-false b 128 q)
+      go : (t : Bool) → ltb b 128 ≡ t → is_whitespace (code_point (b ∷ s)) ≡ false
+      go true q = ascii_no (ltb-true b 128 q)
+      go false q = wide_no (ltb-false b 128 q)
 
-no-whitespace-cons : (b : ℕ) (s : List ℕ) → contains whiteStarts b ≡ false → Nothing ≡ getWhitespaceToken (b ∷ s)
-unfolding getWhitespaceToken run
-no-whitespace-cons b s n = rw (no-white b s n)
+no_whitespace_cons : (b : ℕ) (s : List ℕ) → contains white_starts b ≡ false → Nothing ≡ get_whitespace_token (b ∷ s)
+unfolding get_whitespace_token run
+no_whitespace_cons b s n = rw (no_white b s n)
 
 -- ---- comments
 
-no-comment-cons : (b : ℕ) (s : List ℕ) → contains (bytes "#-/") b ≡ false → Nothing ≡ getCommentToken (b ∷ s)
-unfolding getCommentToken spelled one typed contains
-no-comment-cons b s n = rw (none-of (bytes "#-/") b n 35 refl, none-of (bytes "#-/") b n 45 refl, none-of (bytes "#-/") b n 47 refl)
+no_comment_cons : (b : ℕ) (s : List ℕ) → contains (bytes "#-/") b ≡ false → Nothing ≡ get_comment_token (b ∷ s)
+unfolding get_comment_token spelled one typed contains
+no_comment_cons b s n = rw (none_of (bytes "#-/") b n 35 refl, none_of (bytes "#-/") b n 45 refl, none_of (bytes "#-/") b n 47 refl)
 
 -- ---- type specifiers
 
-no-specifier-cons : (allowed : Bool) (b : ℕ) (s : List ℕ) → contains (bytes ":[") b ≡ false → Nothing ≡ getTypeSpecifierToken allowed (b ∷ s)
-unfolding getTypeSpecifierToken spelled one typed contains
-no-specifier-cons true b s n = rw (none-of (bytes ":[") b n 58 refl, none-of (bytes ":[") b n 91 refl)
-no-specifier-cons false b s n = refl
+no_specifier_cons : (allowed : Bool) (b : ℕ) (s : List ℕ) → contains (bytes ":[") b ≡ false → Nothing ≡ get_type_specifier_token allowed (b ∷ s)
+unfolding get_type_specifier_token spelled one typed contains
+no_specifier_cons true b s n = rw (none_of (bytes ":[") b n 58 refl, none_of (bytes ":[") b n 91 refl)
+no_specifier_cons false b s n = refl
 
 -- ---- strings
 
-no-string-cons : (dialect : Dialect) (b : ℕ) (s : List ℕ) → contains (bytes "'\"`[NExX") b ≡ false → Nothing ≡ getStringToken dialect (b ∷ s)
-unfolding getStringToken stringTaken quotedTaken hexTaken spelled one typed contains
-no-string-cons dialect b s n = go dialect
+no_string_cons : (dialect : Dialect) (b : ℕ) (s : List ℕ) → contains (bytes "'\"`[NExX") b ≡ false → Nothing ≡ get_string_token dialect (b ∷ s)
+unfolding get_string_token string_taken quoted_taken hex_taken spelled one typed contains
+no_string_cons dialect b s n = go dialect
   where
     no : (k : ℕ) → contains (bytes "'\"`[NExX") k ≡ true → eqb b k ≡ false
-    no = none-of (bytes "'\"`[NExX") b n
+    no = none_of (bytes "'\"`[NExX") b n
 
-    go : (d : Dialect) → Nothing ≡ getStringToken d (b ∷ s)
+    go : (d : Dialect) → Nothing ≡ get_string_token d (b ∷ s)
     go Generic = rw (no 96 refl, no 34 refl, no 39 refl, no 78 refl, no 69 refl, no 120 refl, no 88 refl)
     go PostgreSql = rw (no 96 refl, no 34 refl, no 39 refl, no 78 refl, no 69 refl, no 120 refl, no 88 refl)
     go SQLServer = rw (no 96 refl, no 91 refl, no 34 refl, no 39 refl, no 78 refl, no 69 refl, no 120 refl, no 88 refl)
 
 -- ---- parens
 
-no-open-cons : (dialect : Dialect) (b : ℕ) (s : List ℕ) → contains (bytes "([Cc") b ≡ false → Nothing ≡ getOpenParenToken dialect (b ∷ s)
-unfolding getOpenParenToken spelled one typed contains
-no-open-cons Generic b s n = rw (none-of (bytes "([Cc") b n 40 refl, no-capital (bytes "([Cc") b n 67 refl refl)
-no-open-cons PostgreSql b s n = rw (none-of (bytes "([Cc") b n 40 refl, none-of (bytes "([Cc") b n 91 refl, no-capital (bytes "([Cc") b n 67 refl refl)
-no-open-cons SQLServer b s n = rw (none-of (bytes "([Cc") b n 40 refl, no-capital (bytes "([Cc") b n 67 refl refl)
+no_open_cons : (dialect : Dialect) (b : ℕ) (s : List ℕ) → contains (bytes "([Cc") b ≡ false → Nothing ≡ get_open_paren_token dialect (b ∷ s)
+unfolding get_open_paren_token spelled one typed contains
+no_open_cons Generic b s n = rw (none_of (bytes "([Cc") b n 40 refl, no_capital (bytes "([Cc") b n 67 refl refl)
+no_open_cons PostgreSql b s n = rw (none_of (bytes "([Cc") b n 40 refl, none_of (bytes "([Cc") b n 91 refl, no_capital (bytes "([Cc") b n 67 refl refl)
+no_open_cons SQLServer b s n = rw (none_of (bytes "([Cc") b n 40 refl, no_capital (bytes "([Cc") b n 67 refl refl)
 
-no-close-cons : (dialect : Dialect) (b : ℕ) (s : List ℕ) → contains (bytes ")]Ee") b ≡ false → Nothing ≡ getCloseParenToken dialect (b ∷ s)
-unfolding getCloseParenToken spelled one typed contains
-no-close-cons Generic b s n = rw (none-of (bytes ")]Ee") b n 41 refl, no-capital (bytes ")]Ee") b n 69 refl refl)
-no-close-cons PostgreSql b s n = rw (none-of (bytes ")]Ee") b n 41 refl, none-of (bytes ")]Ee") b n 93 refl, no-capital (bytes ")]Ee") b n 69 refl refl)
-no-close-cons SQLServer b s n = rw (none-of (bytes ")]Ee") b n 41 refl, no-capital (bytes ")]Ee") b n 69 refl refl)
+no_close_cons : (dialect : Dialect) (b : ℕ) (s : List ℕ) → contains (bytes ")]Ee") b ≡ false → Nothing ≡ get_close_paren_token dialect (b ∷ s)
+unfolding get_close_paren_token spelled one typed contains
+no_close_cons Generic b s n = rw (none_of (bytes ")]Ee") b n 41 refl, no_capital (bytes ")]Ee") b n 69 refl refl)
+no_close_cons PostgreSql b s n = rw (none_of (bytes ")]Ee") b n 41 refl, none_of (bytes ")]Ee") b n 93 refl, no_capital (bytes ")]Ee") b n 69 refl refl)
+no_close_cons SQLServer b s n = rw (none_of (bytes ")]Ee") b n 41 refl, no_capital (bytes ")]Ee") b n 69 refl refl)
 
 -- ---- placeholders
 
-no-placeholder-cons : (named : Bool) (dialect : Dialect) (b : ℕ) (s : List ℕ) → contains (bytes "?@:${") b ≡ false → Nothing ≡ getPlaceholderToken named dialect (b ∷ s)
-unfolding getPlaceholderToken getIdentNamedPlaceholderToken getStringNamedPlaceholderToken getIndexedPlaceholderToken getBracedNamedPlaceholderToken indexedTaken identTaken stringNamedTaken bracedTaken spelled one typed contains
-no-placeholder-cons named dialect b s n = go named
+no_placeholder_cons : (named : Bool) (dialect : Dialect) (b : ℕ) (s : List ℕ) → contains (bytes "?@:${") b ≡ false → Nothing ≡ get_placeholder_token named dialect (b ∷ s)
+unfolding get_placeholder_token get_ident_named_placeholder_token get_string_named_placeholder_token get_indexed_placeholder_token get_braced_named_placeholder_token indexed_taken ident_taken string_named_taken braced_taken spelled one typed contains
+no_placeholder_cons named dialect b s n = go named
   where
     no : (k : ℕ) → contains (bytes "?@:${") k ≡ true → eqb b k ≡ false
-    no = none-of (bytes "?@:${") b n
+    no = none_of (bytes "?@:${") b n
 
-    go : (t : Bool) → Nothing ≡ getPlaceholderToken t dialect (b ∷ s)
+    go : (t : Bool) → Nothing ≡ get_placeholder_token t dialect (b ∷ s)
     go true = rw (no 63 refl, no 64 refl, no 58 refl, no 36 refl, no 123 refl)
     go false = rw (no 63 refl, no 64 refl, no 58 refl, no 36 refl, no 123 refl)
 
 -- ---- numbers
 
-digits-among : allBelow (λ k. not (isDigit k) || contains (bytes "-0123456789") k) 128 ≡ true
+digits_among : all_below (λ k. not (is_digit k) || contains (bytes "-0123456789") k) 128 ≡ true
 unfolding contains within
-digits-among = refl
+digits_among = refl
 
-digit-among : (b : ℕ) → isDigit b ≡ true → contains (bytes "-0123456789") b ≡ true
-digit-among b w = go (below (λ k. not (isDigit k) || contains (bytes "-0123456789") k) 128 digits-among b small) w
+digit_among : (b : ℕ) → is_digit b ≡ true → contains (bytes "-0123456789") b ≡ true
+digit_among b w = go (below (λ k. not (is_digit k) || contains (bytes "-0123456789") k) 128 digits_among b small) w
   where
     small : b < 128
-    small = let h : b ≤ 0x39 = within-high 0x30 0x39 b w in omega arith
+    small = let h : b ≤ 0x39 = within_high 0x30 0x39 b w in omega arith
 
-    go : (not (isDigit b) || contains (bytes "-0123456789") b) ≡ true → isDigit b ≡ true → contains (bytes "-0123456789") b ≡ true
+    go : (not (is_digit b) || contains (bytes "-0123456789") b) ≡ true → is_digit b ≡ true → contains (bytes "-0123456789") b ≡ true
     go f q = rw q at f
 
-no-digit : (b : ℕ) → contains (bytes "-0123456789") b ≡ false → isDigit b ≡ false
-no-digit b n = go (isDigit b) refl
+no_digit : (b : ℕ) → contains (bytes "-0123456789") b ≡ false → is_digit b ≡ false
+no_digit b n = go (is_digit b) refl
   where
-    go : (t : Bool) → isDigit b ≡ t → t ≡ false
-    go true q = absurd (false≢true (sym n ∙ digit-among b q))
+    go : (t : Bool) → is_digit b ≡ t → t ≡ false
+    go true q = absurd (false≢true (sym n ∙ digit_among b q))
     go false q = refl
 
 -- no number without a digit
-no-digit-left : (s : List ℕ) → leb 1 (count isDigit s) ≡ false → Fails ≡ unsigned s
-unfolding unsigned scientificNotation decimalNumber digit1
-no-digit-left s n = rw n
+no_digit_left : (s : List ℕ) → leb 1 (count is_digit s) ≡ false → Fails ≡ unsigned s
+unfolding unsigned scientific_notation decimal_number digit1
+no_digit_left s n = rw n
 
-no-number-cons : (b : ℕ) (s : List ℕ) → contains (bytes "-0123456789") b ≡ false → Nothing ≡ getNumberToken (b ∷ s)
-unfolding getNumberToken spelled one typed contains count
-no-number-cons b s n = rw (none-of (bytes "-0123456789") b n 45 refl, ← no-digit-left (b ∷ s) (rw (no-digit b n)))
+no_number_cons : (b : ℕ) (s : List ℕ) → contains (bytes "-0123456789") b ≡ false → Nothing ≡ get_number_token (b ∷ s)
+unfolding get_number_token spelled one typed contains count
+no_number_cons b s n = rw (none_of (bytes "-0123456789") b n 45 refl, ← no_digit_left (b ∷ s) (rw (no_digit b n)))
 
 -- ---- what is left behind a first byte
 
-hash-left : (s : List ℕ) → startsWith 35 s ≡ true → tokenOf LineComment (literal (bytes "#") tillLineEnding s) ≡ getCommentToken s
-unfolding startsWith getCommentToken spelled one typed
-hash-left [] e = absurd (false≢true e)
-hash-left (b ∷ s) e = rw (eqb-true b 35 e) (alt-nothing _)
+hash_left : (s : List ℕ) → starts_with 35 s ≡ true → token_of LineComment (literal (bytes "#") till_line_ending s) ≡ get_comment_token s
+unfolding starts_with get_comment_token spelled one typed
+hash_left [] e = absurd (false≢true e)
+hash_left (b ∷ s) e = rw (eqb-true b 35 e) (alt_nothing _)
 
-dashes-left : (s : List ℕ) → startsWith 45 s ≡ true → tokenOf LineComment (literal (bytes "--") tillLineEnding s) ≡ getCommentToken s
-unfolding startsWith getCommentToken spelled one typed
-dashes-left [] e = absurd (false≢true e)
-dashes-left (b ∷ s) e = rw (eqb-true b 45 e) (alt-nothing _)
+dashes_left : (s : List ℕ) → starts_with 45 s ≡ true → token_of LineComment (literal (bytes "--") till_line_ending s) ≡ get_comment_token s
+unfolding starts_with get_comment_token spelled one typed
+dashes_left [] e = absurd (false≢true e)
+dashes_left (b ∷ s) e = rw (eqb-true b 45 e) (alt_nothing _)
 
-block-left : (s : List ℕ) → startsWith 35 s ≡ false → startsWith 45 s ≡ false → tokenOf BlockComment (literal (bytes "/*") throughBlockEnd s) ≡ getCommentToken s
-unfolding startsWith getCommentToken spelled one typed
-block-left [] e f = refl
-block-left (b ∷ s) e f = rw (e, f)
+block_left : (s : List ℕ) → starts_with 35 s ≡ false → starts_with 45 s ≡ false → token_of BlockComment (literal (bytes "/*") through_block_end s) ≡ get_comment_token s
+unfolding starts_with get_comment_token spelled one typed
+block_left [] e f = refl
+block_left (b ∷ s) e f = rw (e, f)
 
-negative-left : (s : List ℕ) → startsWith 45 s ≡ true → tokenOf Number (literal (bytes "-") unsigned s) ≡ getNumberToken s
-unfolding startsWith getNumberToken count within
-negative-left [] e = absurd (false≢true e)
-negative-left (b ∷ s) e = rw (eqb-true b 45 e, ← no-digit-left (45 ∷ s) refl) (ap (tokenOf Number) (or-fails (literal (bytes "-") unsigned (45 ∷ s))))
+negative_left : (s : List ℕ) → starts_with 45 s ≡ true → token_of Number (literal (bytes "-") unsigned s) ≡ get_number_token s
+unfolding starts_with get_number_token count within
+negative_left [] e = absurd (false≢true e)
+negative_left (b ∷ s) e = rw (eqb-true b 45 e, ← no_digit_left (45 ∷ s) refl) (ap (token_of Number) (or_fails (literal (bytes "-") unsigned (45 ∷ s))))
 
-unsigned-left : (s : List ℕ) → startsWith 45 s ≡ false → tokenOf Number (unsigned s) ≡ getNumberToken s
-unfolding startsWith getNumberToken spelled one typed
-unsigned-left [] e = refl
-unsigned-left (b ∷ s) e = rw e
+unsigned_left : (s : List ℕ) → starts_with 45 s ≡ false → token_of Number (unsigned s) ≡ get_number_token s
+unfolding starts_with get_number_token spelled one typed
+unsigned_left [] e = refl
+unsigned_left (b ∷ s) e = rw e
 
-open-square-left : (dialect : Dialect) (s : List ℕ) → startsWith 91 s ≡ true → tokenOf OpenParen (inPostgreSql dialect (literal (bytes "[") done) s) ≡ getOpenParenToken dialect s
-unfolding startsWith getOpenParenToken spelled one typed capital within
-open-square-left dialect [] e = absurd (false≢true e)
-open-square-left Generic (b ∷ s) e = rw (eqb-true b 91 e)
-open-square-left PostgreSql (b ∷ s) e = rw (eqb-true b 91 e)
-open-square-left SQLServer (b ∷ s) e = rw (eqb-true b 91 e)
+open_square_left : (dialect : Dialect) (s : List ℕ) → starts_with 91 s ≡ true → token_of OpenParen (in_postgre_sql dialect (literal (bytes "[") done) s) ≡ get_open_paren_token dialect s
+unfolding starts_with get_open_paren_token spelled one typed capital within
+open_square_left dialect [] e = absurd (false≢true e)
+open_square_left Generic (b ∷ s) e = rw (eqb-true b 91 e)
+open_square_left PostgreSql (b ∷ s) e = rw (eqb-true b 91 e)
+open_square_left SQLServer (b ∷ s) e = rw (eqb-true b 91 e)
 
-open-left : (dialect : Dialect) (s : List ℕ) → startsWith 91 s ≡ false → tokenOf OpenParen (or (literal (bytes "(") done s) (caseless (bytes "CASE") endOfWord s)) ≡ getOpenParenToken dialect s
-unfolding startsWith getOpenParenToken spelled one typed
-open-left Generic s e = refl
-open-left SQLServer s e = refl
-open-left PostgreSql [] e = refl
-open-left PostgreSql (b ∷ s) e = rw e
+open_left : (dialect : Dialect) (s : List ℕ) → starts_with 91 s ≡ false → token_of OpenParen (or (literal (bytes "(") done s) (caseless (bytes "CASE") end_of_word s)) ≡ get_open_paren_token dialect s
+unfolding starts_with get_open_paren_token spelled one typed
+open_left Generic s e = refl
+open_left SQLServer s e = refl
+open_left PostgreSql [] e = refl
+open_left PostgreSql (b ∷ s) e = rw e
 
-close-square-left : (dialect : Dialect) (s : List ℕ) → startsWith 93 s ≡ true → tokenOf CloseParen (inPostgreSql dialect (literal (bytes "]") done) s) ≡ getCloseParenToken dialect s
-unfolding startsWith getCloseParenToken spelled one typed capital within
-close-square-left dialect [] e = absurd (false≢true e)
-close-square-left Generic (b ∷ s) e = rw (eqb-true b 93 e)
-close-square-left PostgreSql (b ∷ s) e = rw (eqb-true b 93 e)
-close-square-left SQLServer (b ∷ s) e = rw (eqb-true b 93 e)
+close_square_left : (dialect : Dialect) (s : List ℕ) → starts_with 93 s ≡ true → token_of CloseParen (in_postgre_sql dialect (literal (bytes "]") done) s) ≡ get_close_paren_token dialect s
+unfolding starts_with get_close_paren_token spelled one typed capital within
+close_square_left dialect [] e = absurd (false≢true e)
+close_square_left Generic (b ∷ s) e = rw (eqb-true b 93 e)
+close_square_left PostgreSql (b ∷ s) e = rw (eqb-true b 93 e)
+close_square_left SQLServer (b ∷ s) e = rw (eqb-true b 93 e)
 
-close-left : (dialect : Dialect) (s : List ℕ) → startsWith 93 s ≡ false
-    → tokenOf CloseParen (or (literal (bytes ")") done s) (or (caseless (bytes "END") (blanks (caseless (bytes "CASE") endOfWord)) s) (caseless (bytes "END") endOfWord s))) ≡ getCloseParenToken dialect s
-unfolding startsWith getCloseParenToken spelled one typed
-close-left Generic s e = refl
-close-left SQLServer s e = refl
-close-left PostgreSql [] e = refl
-close-left PostgreSql (b ∷ s) e = rw e
+close_left : (dialect : Dialect) (s : List ℕ) → starts_with 93 s ≡ false
+    → token_of CloseParen (or (literal (bytes ")") done s) (or (caseless (bytes "END") (blanks (caseless (bytes "CASE") end_of_word)) s) (caseless (bytes "END") end_of_word s))) ≡ get_close_paren_token dialect s
+unfolding starts_with get_close_paren_token spelled one typed
+close_left Generic s e = refl
+close_left SQLServer s e = refl
+close_left PostgreSql [] e = refl
+close_left PostgreSql (b ∷ s) e = rw e
 
 -- ---- as the recognisers use them, where the first byte is not among those that may stand there
 
 module _ (p : Bool) (n : p ≡ false) where
-  pub no-unsigned : (s : List ℕ) → p ≡ leb 1 (count isDigit s) → Fails ≡ unsigned s
-  no-unsigned s e = no-digit-left s (sym e ∙ n)
+  pub no_unsigned : (s : List ℕ) → p ≡ leb 1 (count is_digit s) → Fails ≡ unsigned s
+  no_unsigned s e = no_digit_left s (sym e ∙ n)
 
-  pub no-whitespace : (s : List ℕ) → p ≡ startsAmong whiteStarts s → Nothing ≡ getWhitespaceToken s
-  unfolding startsAmong getWhitespaceToken run
-  no-whitespace [] e = refl
-  no-whitespace (b ∷ s) e = no-whitespace-cons b s (sym e ∙ n)
+  pub no_whitespace : (s : List ℕ) → p ≡ starts_among white_starts s → Nothing ≡ get_whitespace_token s
+  unfolding starts_among get_whitespace_token run
+  no_whitespace [] e = refl
+  no_whitespace (b ∷ s) e = no_whitespace_cons b s (sym e ∙ n)
 
-  pub no-comment : (s : List ℕ) → p ≡ startsAmong (bytes "#-/") s → Nothing ≡ getCommentToken s
-  unfolding startsAmong getCommentToken spelled one
-  no-comment [] e = refl
-  no-comment (b ∷ s) e = no-comment-cons b s (sym e ∙ n)
+  pub no_comment : (s : List ℕ) → p ≡ starts_among (bytes "#-/") s → Nothing ≡ get_comment_token s
+  unfolding starts_among get_comment_token spelled one
+  no_comment [] e = refl
+  no_comment (b ∷ s) e = no_comment_cons b s (sym e ∙ n)
 
-  pub no-specifier : (allowed : Bool) (s : List ℕ) → p ≡ startsAmong (bytes ":[") s → Nothing ≡ getTypeSpecifierToken allowed s
-  unfolding startsAmong getTypeSpecifierToken spelled one
-  no-specifier true [] e = refl
-  no-specifier false [] e = refl
-  no-specifier allowed (b ∷ s) e = no-specifier-cons allowed b s (sym e ∙ n)
+  pub no_specifier : (allowed : Bool) (s : List ℕ) → p ≡ starts_among (bytes ":[") s → Nothing ≡ get_type_specifier_token allowed s
+  unfolding starts_among get_type_specifier_token spelled one
+  no_specifier true [] e = refl
+  no_specifier false [] e = refl
+  no_specifier allowed (b ∷ s) e = no_specifier_cons allowed b s (sym e ∙ n)
 
-  pub no-string : (dialect : Dialect) (s : List ℕ) → p ≡ startsAmong (bytes "'\"`[NExX") s → Nothing ≡ getStringToken dialect s
-  unfolding startsAmong getStringToken stringTaken quotedTaken hexTaken spelled one
-  no-string Generic [] e = refl
-  no-string PostgreSql [] e = refl
-  no-string SQLServer [] e = refl
-  no-string dialect (b ∷ s) e = no-string-cons dialect b s (sym e ∙ n)
+  pub no_string : (dialect : Dialect) (s : List ℕ) → p ≡ starts_among (bytes "'\"`[NExX") s → Nothing ≡ get_string_token dialect s
+  unfolding starts_among get_string_token string_taken quoted_taken hex_taken spelled one
+  no_string Generic [] e = refl
+  no_string PostgreSql [] e = refl
+  no_string SQLServer [] e = refl
+  no_string dialect (b ∷ s) e = no_string_cons dialect b s (sym e ∙ n)
 
-  pub no-open : (dialect : Dialect) (s : List ℕ) → p ≡ startsAmong (bytes "([Cc") s → Nothing ≡ getOpenParenToken dialect s
-  unfolding startsAmong getOpenParenToken spelled one
-  no-open Generic [] e = refl
-  no-open PostgreSql [] e = refl
-  no-open SQLServer [] e = refl
-  no-open dialect (b ∷ s) e = no-open-cons dialect b s (sym e ∙ n)
+  pub no_open : (dialect : Dialect) (s : List ℕ) → p ≡ starts_among (bytes "([Cc") s → Nothing ≡ get_open_paren_token dialect s
+  unfolding starts_among get_open_paren_token spelled one
+  no_open Generic [] e = refl
+  no_open PostgreSql [] e = refl
+  no_open SQLServer [] e = refl
+  no_open dialect (b ∷ s) e = no_open_cons dialect b s (sym e ∙ n)
 
-  pub no-close : (dialect : Dialect) (s : List ℕ) → p ≡ startsAmong (bytes ")]Ee") s → Nothing ≡ getCloseParenToken dialect s
-  unfolding startsAmong getCloseParenToken spelled one
-  no-close Generic [] e = refl
-  no-close PostgreSql [] e = refl
-  no-close SQLServer [] e = refl
-  no-close dialect (b ∷ s) e = no-close-cons dialect b s (sym e ∙ n)
+  pub no_close : (dialect : Dialect) (s : List ℕ) → p ≡ starts_among (bytes ")]Ee") s → Nothing ≡ get_close_paren_token dialect s
+  unfolding starts_among get_close_paren_token spelled one
+  no_close Generic [] e = refl
+  no_close PostgreSql [] e = refl
+  no_close SQLServer [] e = refl
+  no_close dialect (b ∷ s) e = no_close_cons dialect b s (sym e ∙ n)
 
-  pub no-number : (s : List ℕ) → p ≡ startsAmong (bytes "-0123456789") s → Nothing ≡ getNumberToken s
-  unfolding startsAmong getNumberToken unsigned scientificNotation decimalNumber digit1 count spelled one
-  no-number [] e = refl
-  no-number (b ∷ s) e = no-number-cons b s (sym e ∙ n)
+  pub no_number : (s : List ℕ) → p ≡ starts_among (bytes "-0123456789") s → Nothing ≡ get_number_token s
+  unfolding starts_among get_number_token unsigned scientific_notation decimal_number digit1 count spelled one
+  no_number [] e = refl
+  no_number (b ∷ s) e = no_number_cons b s (sym e ∙ n)
 
-  pub no-placeholder : (named : Bool) (dialect : Dialect) (s : List ℕ) → p ≡ startsAmong (bytes "?@:${") s → Nothing ≡ getPlaceholderToken named dialect s
-  unfolding startsAmong getPlaceholderToken getIdentNamedPlaceholderToken getStringNamedPlaceholderToken getIndexedPlaceholderToken getBracedNamedPlaceholderToken indexedTaken identTaken stringNamedTaken bracedTaken spelled one
-  no-placeholder true dialect [] e = refl
-  no-placeholder false dialect [] e = refl
-  no-placeholder named dialect (b ∷ s) e = no-placeholder-cons named dialect b s (sym e ∙ n)
+  pub no_placeholder : (named : Bool) (dialect : Dialect) (s : List ℕ) → p ≡ starts_among (bytes "?@:${") s → Nothing ≡ get_placeholder_token named dialect s
+  unfolding starts_among get_placeholder_token get_ident_named_placeholder_token get_string_named_placeholder_token get_indexed_placeholder_token get_braced_named_placeholder_token indexed_taken ident_taken string_named_taken braced_taken spelled one
+  no_placeholder true dialect [] e = refl
+  no_placeholder false dialect [] e = refl
+  no_placeholder named dialect (b ∷ s) e = no_placeholder_cons named dialect b s (sym e ∙ n)
 
 -- ---- as they use them by the first byte: r is made of what was taken
 
 module _ (p : Bool) (t : Taken) (r : Recognised) (s : List ℕ) where
-  pub hash-comment : p ≡ startsWith 35 (drop 0 s) → p ≡ true → t ≡ literal (bytes "#") tillLineEnding s → r ≡ tokenOf LineComment t → r ≡ getCommentToken s
-  hash-comment e q f g = g ∙ (ap (tokenOf LineComment) f ∙ hash-left s (sym e ∙ q))
+  pub hash_comment : p ≡ starts_with 35 (drop 0 s) → p ≡ true → t ≡ literal (bytes "#") till_line_ending s → r ≡ token_of LineComment t → r ≡ get_comment_token s
+  hash_comment e q f g = g ∙ (ap (token_of LineComment) f ∙ hash_left s (sym e ∙ q))
 
-  pub dashed-comment : p ≡ startsWith 45 (drop 0 s) → p ≡ true → t ≡ literal (bytes "--") tillLineEnding s → r ≡ tokenOf LineComment t → r ≡ getCommentToken s
-  dashed-comment e q f g = g ∙ (ap (tokenOf LineComment) f ∙ dashes-left s (sym e ∙ q))
+  pub dashed_comment : p ≡ starts_with 45 (drop 0 s) → p ≡ true → t ≡ literal (bytes "--") till_line_ending s → r ≡ token_of LineComment t → r ≡ get_comment_token s
+  dashed_comment e q f g = g ∙ (ap (token_of LineComment) f ∙ dashes_left s (sym e ∙ q))
 
-  pub block-comment-is : p ≡ startsWith 35 (drop 0 s) → p ≡ false → (o : Bool) → o ≡ startsWith 45 (drop 0 s) → o ≡ false → t ≡ literal (bytes "/*") throughBlockEnd s → r ≡ tokenOf BlockComment t → r ≡ getCommentToken s
-  block-comment-is e q o e₂ q₂ f g = g ∙ (ap (tokenOf BlockComment) f ∙ block-left s (sym e ∙ q) (sym e₂ ∙ q₂))
+  pub block_comment_is : p ≡ starts_with 35 (drop 0 s) → p ≡ false → (o : Bool) → o ≡ starts_with 45 (drop 0 s) → o ≡ false → t ≡ literal (bytes "/*") through_block_end s → r ≡ token_of BlockComment t → r ≡ get_comment_token s
+  block_comment_is e q o e₂ q₂ f g = g ∙ (ap (token_of BlockComment) f ∙ block_left s (sym e ∙ q) (sym e₂ ∙ q₂))
 
-  pub negative-is : p ≡ startsWith 45 (drop 0 s) → p ≡ true → t ≡ literal (bytes "-") unsigned s → r ≡ tokenOf Number t → r ≡ getNumberToken s
-  negative-is e q f g = g ∙ (ap (tokenOf Number) f ∙ negative-left s (sym e ∙ q))
+  pub negative_is : p ≡ starts_with 45 (drop 0 s) → p ≡ true → t ≡ literal (bytes "-") unsigned s → r ≡ token_of Number t → r ≡ get_number_token s
+  negative_is e q f g = g ∙ (ap (token_of Number) f ∙ negative_left s (sym e ∙ q))
 
-  pub unsigned-is : p ≡ startsWith 45 (drop 0 s) → p ≡ false → t ≡ unsigned s → r ≡ tokenOf Number t → r ≡ getNumberToken s
-  unsigned-is e q f g = g ∙ (ap (tokenOf Number) f ∙ unsigned-left s (sym e ∙ q))
+  pub unsigned_is : p ≡ starts_with 45 (drop 0 s) → p ≡ false → t ≡ unsigned s → r ≡ token_of Number t → r ≡ get_number_token s
+  unsigned_is e q f g = g ∙ (ap (token_of Number) f ∙ unsigned_left s (sym e ∙ q))
 
   module _ (dialect : Dialect) where
-    pub open-square : p ≡ startsWith 91 (drop 0 s) → p ≡ true → t ≡ inPostgreSql dialect (literal (bytes "[") done) s → r ≡ tokenOf OpenParen t → r ≡ getOpenParenToken dialect s
-    open-square e q f g = g ∙ (ap (tokenOf OpenParen) f ∙ open-square-left dialect s (sym e ∙ q))
+    pub open_square : p ≡ starts_with 91 (drop 0 s) → p ≡ true → t ≡ in_postgre_sql dialect (literal (bytes "[") done) s → r ≡ token_of OpenParen t → r ≡ get_open_paren_token dialect s
+    open_square e q f g = g ∙ (ap (token_of OpenParen) f ∙ open_square_left dialect s (sym e ∙ q))
 
-    pub open-other : p ≡ startsWith 91 (drop 0 s) → p ≡ false → (round word : Taken) → round ≡ literal (bytes "(") done s → word ≡ caseless (bytes "CASE") endOfWord s → t ≡ or round word → r ≡ tokenOf OpenParen t → r ≡ getOpenParenToken dialect s
-    open-other e q round word h i f g = rw (g, f, h, i) (open-left dialect s (sym e ∙ q))
+    pub open_other : p ≡ starts_with 91 (drop 0 s) → p ≡ false → (round word : Taken) → round ≡ literal (bytes "(") done s → word ≡ caseless (bytes "CASE") end_of_word s → t ≡ or round word → r ≡ token_of OpenParen t → r ≡ get_open_paren_token dialect s
+    open_other e q round word h i f g = rw (g, f, h, i) (open_left dialect s (sym e ∙ q))
 
-    pub close-square : p ≡ startsWith 93 (drop 0 s) → p ≡ true → t ≡ inPostgreSql dialect (literal (bytes "]") done) s → r ≡ tokenOf CloseParen t → r ≡ getCloseParenToken dialect s
-    close-square e q f g = g ∙ (ap (tokenOf CloseParen) f ∙ close-square-left dialect s (sym e ∙ q))
+    pub close_square : p ≡ starts_with 93 (drop 0 s) → p ≡ true → t ≡ in_postgre_sql dialect (literal (bytes "]") done) s → r ≡ token_of CloseParen t → r ≡ get_close_paren_token dialect s
+    close_square e q f g = g ∙ (ap (token_of CloseParen) f ∙ close_square_left dialect s (sym e ∙ q))
 
-    pub close-other : p ≡ startsWith 93 (drop 0 s) → p ≡ false → (end-case end words round : Taken) → end-case ≡ caseless (bytes "END") (blanks (caseless (bytes "CASE") endOfWord)) s → end ≡ caseless (bytes "END") endOfWord s → words ≡ or end-case end
-        → round ≡ literal (bytes ")") done s → t ≡ or round words → r ≡ tokenOf CloseParen t → r ≡ getCloseParenToken dialect s
-    close-other e q end-case end words round h i j k f g = rw (g, f, k, j, h, i) (close-left dialect s (sym e ∙ q))
+    pub close_other : p ≡ starts_with 93 (drop 0 s) → p ≡ false → (end_case end words round : Taken) → end_case ≡ caseless (bytes "END") (blanks (caseless (bytes "CASE") end_of_word)) s → end ≡ caseless (bytes "END") end_of_word s → words ≡ or end_case end
+        → round ≡ literal (bytes ")") done s → t ≡ or round words → r ≡ token_of CloseParen t → r ≡ get_close_paren_token dialect s
+    close_other e q end_case end words round h i j k f g = rw (g, f, k, j, h, i) (close_left dialect s (sym e ∙ q))

@@ -7,7 +7,7 @@ use mathlib.Core.Bool.{Bool, ◌||◌, or_assoc}
 use lib.Dec.{eqb}
 use Rattle.recognisers.specs.Taking.{contains}
 
-pub contains-both : (ks ls : List ℕ) (b : ℕ) → (contains ks b || contains ls b) ≡ contains (ks ++ ls) b
+pub contains_both : (ks ls : List ℕ) (b : ℕ) → (contains ks b || contains ls b) ≡ contains (ks ++ ls) b
 unfolding contains
-contains-both [] ls b = refl
-contains-both (k ∷ ks) ls b = or_assoc (eqb b k) (contains ks b) (contains ls b) ∙ ap (λ (t : Bool). eqb b k || t) (contains-both ks ls b)
+contains_both [] ls b = refl
+contains_both (k ∷ ks) ls b = or_assoc (eqb b k) (contains ks b) (contains ls b) ∙ ap (λ (t : Bool). eqb b k || t) (contains_both ks ls b)

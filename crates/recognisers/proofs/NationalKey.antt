@@ -8,17 +8,17 @@ use Rattle.recognisers.specs.declared.Key.TheVariants.{Named}
 use Rattle.recognisers.specs.declared.TokenKind.TheVariants.{Placeholder}
 use Rattle.recognisers.specs.declared.Recognised.TheVariants.{Token}
 use Rattle.recognisers.specs.Text.{bytes}
-use Rattle.recognisers.specs.Taking.{one, spelled, typed, contains, startsWith, startsAmong}
+use Rattle.recognisers.specs.Taking.{one, spelled, typed, contains, starts_with, starts_among}
 use Rattle.recognisers.specs.Pieces.{piece}
-use Rattle.recognisers.specs.Strings.{takeTillEscaping, closedBy, placeholderQuotedTaken, placeholderStringTaken, pairsPassed, pairsIn, placeholderStringPairs}
-use Rattle.recognisers.specs.Placeholder.{hasEscape, stringKey, stringNamedTaken, stringNamedPairs, getStringNamedPlaceholderToken}
+use Rattle.recognisers.specs.Strings.{take_till_escaping, closed_by, placeholder_quoted_taken, placeholder_string_taken, pairs_passed, pairs_in, placeholder_string_pairs}
+use Rattle.recognisers.specs.Placeholder.{has_escape, string_key, string_named_taken, string_named_pairs, get_string_named_placeholder_token}
 
 -- six bytes, and a key of the three from the third on
-pub national-key : (dialect : Dialect) → getStringNamedPlaceholderToken dialect (bytes "@N'ab'") ≡ Token (piece Placeholder 6 (Named 2 3))
-unfolding one spelled typed contains startsWith takeTillEscaping closedBy placeholderQuotedTaken placeholderStringTaken hasEscape stringKey stringNamedTaken pairsPassed pairsIn placeholderStringPairs stringNamedPairs startsAmong getStringNamedPlaceholderToken
-national-key Generic = refl
-national-key PostgreSql = refl
-national-key SQLServer = refl
+pub national_key : (dialect : Dialect) → get_string_named_placeholder_token dialect (bytes "@N'ab'") ≡ Token (piece Placeholder 6 (Named 2 3))
+unfolding one spelled typed contains starts_with take_till_escaping closed_by placeholder_quoted_taken placeholder_string_taken has_escape string_key string_named_taken pairs_passed pairs_in placeholder_string_pairs string_named_pairs starts_among get_string_named_placeholder_token
+national_key Generic = refl
+national_key PostgreSql = refl
+national_key SQLServer = refl
 
-pub national-key-text : take 3 (drop 2 (bytes "@N'ab'")) ≡ bytes "'ab"
-national-key-text = refl
+pub national_key_text : take 3 (drop 2 (bytes "@N'ab'")) ≡ bytes "'ab"
+national_key_text = refl

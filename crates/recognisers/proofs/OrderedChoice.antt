@@ -7,9 +7,9 @@ use Rattle.recognisers.specs.declared.Recognised.TheVariants.{Token, Nothing}
 use Rattle.recognisers.specs.Pieces.{alt}
 
 -- the first has recognised a piece
-pub first-recognises : (first rest found : Recognised) (p : Piece) → found ≡ first → found ≡ Token p → Token p ≡ alt first rest
-first-recognises first rest found p e k = sym (ap (λ x. alt x rest) (sym e ∙ k))
+pub first_recognises : (first rest found : Recognised) (p : Piece) → found ≡ first → found ≡ Token p → Token p ≡ alt first rest
+first_recognises first rest found p e k = sym (ap (λ x. alt x rest) (sym e ∙ k))
 
 -- the first has recognised nothing
-pub rest-recognises : (first rest found answer : Recognised) → found ≡ first → found ≡ Nothing → answer ≡ rest → answer ≡ alt first rest
-rest-recognises first rest found answer e k a = a ∙ sym (ap (λ x. alt x rest) (sym e ∙ k))
+pub rest_recognises : (first rest found answer : Recognised) → found ≡ first → found ≡ Nothing → answer ≡ rest → answer ≡ alt first rest
+rest_recognises first rest found answer e k a = a ∙ sym (ap (λ x. alt x rest) (sym e ∙ k))

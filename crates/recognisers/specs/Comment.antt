@@ -4,24 +4,24 @@ use Rattle.recognisers.specs.declared.Taken.TheVariants.{Bytes, Fails}
 use Rattle.recognisers.specs.declared.TokenKind.TheVariants.{LineComment, BlockComment}
 use Rattle.recognisers.specs.declared.Recognised.{Recognised}
 use Rattle.recognisers.specs.Text.{byte, bytes}
-use Rattle.recognisers.specs.Taking.{Taker, more, literal, startsWith}
-use Rattle.recognisers.specs.Pieces.{tokenOf, alt}
+use Rattle.recognisers.specs.Taking.{Taker, more, literal, starts_with}
+use Rattle.recognisers.specs.Pieces.{token_of, alt}
 
 -- up to LF, CR LF or the end; a CR without LF is refused
-unfoldable pub tillLineEnding : Taker
-tillLineEnding [] = Bytes 0
-tillLineEnding (b ∷ s) =
+unfoldable pub till_line_ending : Taker
+till_line_ending [] = Bytes 0
+till_line_ending (b ∷ s) =
     cond (eqb b (byte "\n")) (Bytes 0)
-    (cond (eqb b (byte "\r")) (cond (startsWith (byte "\n") s) (Bytes 0) Fails) (more 1 (tillLineEnding s)))
+    (cond (eqb b (byte "\r")) (cond (starts_with (byte "\n") s) (Bytes 0) Fails) (more 1 (till_line_ending s)))
 
 -- through the first `*/`, else to the end
-unfoldable pub throughBlockEnd : Taker
-throughBlockEnd [] = Bytes 0
-throughBlockEnd (b ∷ s) =
-    cond (eqb b (byte "*") && startsWith (byte "/") s) (Bytes 2) (more 1 (throughBlockEnd s))
+unfoldable pub through_block_end : Taker
+through_block_end [] = Bytes 0
+through_block_end (b ∷ s) =
+    cond (eqb b (byte "*") && starts_with (byte "/") s) (Bytes 2) (more 1 (through_block_end s))
 
-unfoldable pub getCommentToken : List ℕ → Recognised
-getCommentToken s =
-    alt (tokenOf LineComment (literal (bytes "#") tillLineEnding s))
-    (alt (tokenOf LineComment (literal (bytes "--") tillLineEnding s))
-    (tokenOf BlockComment (literal (bytes "/*") throughBlockEnd s)))
+unfoldable pub get_comment_token : List ℕ → Recognised
+get_comment_token s =
+    alt (token_of LineComment (literal (bytes "#") till_line_ending s))
+    (alt (token_of LineComment (literal (bytes "--") till_line_ending s))
+    (token_of BlockComment (literal (bytes "/*") through_block_end s)))

@@ -3,29 +3,29 @@ use Rattle.std.specs.Prelude.{ℕ, Bool, false, ◌||◌, List, [], ◌∷◌, e
 use Rattle.recognisers.specs.declared.TokenKind.{TokenKind}
 use Rattle.recognisers.specs.declared.TokenKind.TheVariants
 
-abbrev pub kindNumber : TokenKind → ℕ
-kindNumber TokenKind.TypeSpecifier = 0
-kindNumber TokenKind.Whitespace = 1
-kindNumber TokenKind.String = 2
-kindNumber TokenKind.Reserved = 3
-kindNumber TokenKind.ReservedTopLevel = 4
-kindNumber TokenKind.ReservedTopLevelNoIndent = 5
-kindNumber TokenKind.ReservedNewline = 6
-kindNumber TokenKind.ReservedNewlineAfter = 7
-kindNumber TokenKind.Operator = 8
-kindNumber TokenKind.OpenParen = 9
-kindNumber TokenKind.CloseParen = 10
-kindNumber TokenKind.LineComment = 11
-kindNumber TokenKind.BlockComment = 12
-kindNumber TokenKind.Number = 13
-kindNumber TokenKind.Placeholder = 14
-kindNumber TokenKind.Word = 15
-kindNumber TokenKind.Join = 16
+abbrev pub kind_number : TokenKind → ℕ
+kind_number TokenKind.TypeSpecifier = 0
+kind_number TokenKind.Whitespace = 1
+kind_number TokenKind.String = 2
+kind_number TokenKind.Reserved = 3
+kind_number TokenKind.ReservedTopLevel = 4
+kind_number TokenKind.ReservedTopLevelNoIndent = 5
+kind_number TokenKind.ReservedNewline = 6
+kind_number TokenKind.ReservedNewlineAfter = 7
+kind_number TokenKind.Operator = 8
+kind_number TokenKind.OpenParen = 9
+kind_number TokenKind.CloseParen = 10
+kind_number TokenKind.LineComment = 11
+kind_number TokenKind.BlockComment = 12
+kind_number TokenKind.Number = 13
+kind_number TokenKind.Placeholder = 14
+kind_number TokenKind.Word = 15
+kind_number TokenKind.Join = 16
 
-abbrev pub isKind : TokenKind → TokenKind → Bool
-isKind a b = eqb (kindNumber a) (kindNumber b)
+abbrev pub is_kind : TokenKind → TokenKind → Bool
+is_kind a b = eqb (kind_number a) (kind_number b)
 
 -- the kind is among these
-abbrev pub isOneOf : List TokenKind → TokenKind → Bool
-isOneOf [] kind = false
-isOneOf (k ∷ kinds) kind = isKind kind k || isOneOf kinds kind
+abbrev pub is_one_of : List TokenKind → TokenKind → Bool
+is_one_of [] kind = false
+is_one_of (k ∷ kinds) kind = is_kind kind k || is_one_of kinds kind

@@ -4,23 +4,23 @@ use Rattle.recognisers.specs.declared.TokenKind.TheVariants.{Number}
 use Rattle.recognisers.specs.declared.Recognised.{Recognised}
 use Rattle.recognisers.specs.Text.{bytes}
 use Rattle.recognisers.specs.Taking.{Taker, or, done, one, literal, digit1, digit0, contains}
-use Rattle.recognisers.specs.Pieces.{tokenOf}
+use Rattle.recognisers.specs.Pieces.{token_of}
 
-unfoldable pub decimalNumber : Taker → Taker
-decimalNumber then s = digit1 (literal (bytes ".") (digit0 then)) s
+unfoldable pub decimal_number : Taker → Taker
+decimal_number then s = digit1 (literal (bytes ".") (digit0 then)) s
 
 -- a sign or none, and digits
-unfoldable pub signedDigits : Taker
-signedDigits s = or (one (contains (bytes "-+")) (digit1 done) s) (digit1 done s)
+unfoldable pub signed_digits : Taker
+signed_digits s = or (one (contains (bytes "-+")) (digit1 done) s) (digit1 done s)
 
 unfoldable pub exponent : Taker
-exponent s = literal (bytes "e") signedDigits s
+exponent s = literal (bytes "e") signed_digits s
 
-unfoldable pub scientificNotation : Taker
-scientificNotation s = or (decimalNumber exponent s) (digit1 exponent s)
+unfoldable pub scientific_notation : Taker
+scientific_notation s = or (decimal_number exponent s) (digit1 exponent s)
 
 unfoldable pub unsigned : Taker
-unsigned s = or (scientificNotation s) (or (decimalNumber done s) (digit1 done s))
+unsigned s = or (scientific_notation s) (or (decimal_number done s) (digit1 done s))
 
-unfoldable pub getNumberToken : List ℕ → Recognised
-getNumberToken s = tokenOf Number (or (literal (bytes "-") unsigned s) (unsigned s))
+unfoldable pub get_number_token : List ℕ → Recognised
+get_number_token s = token_of Number (or (literal (bytes "-") unsigned s) (unsigned s))

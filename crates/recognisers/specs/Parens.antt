@@ -6,23 +6,23 @@ use Rattle.recognisers.specs.declared.Taken.TheVariants.{Fails}
 use Rattle.recognisers.specs.declared.TokenKind.TheVariants.{OpenParen, CloseParen}
 use Rattle.recognisers.specs.declared.Recognised.{Recognised}
 use Rattle.recognisers.specs.Text.{bytes}
-use Rattle.recognisers.specs.Taking.{Taker, or, done, literal, caseless, blanks, endOfWord}
-use Rattle.recognisers.specs.Pieces.{tokenOf}
+use Rattle.recognisers.specs.Taking.{Taker, or, done, literal, caseless, blanks, end_of_word}
+use Rattle.recognisers.specs.Pieces.{token_of}
 
-abbrev pub inPostgreSql : Dialect → Taker → Taker
-inPostgreSql Generic taker s = Fails
-inPostgreSql PostgreSql taker s = taker s
-inPostgreSql SQLServer taker s = Fails
+abbrev pub in_postgre_sql : Dialect → Taker → Taker
+in_postgre_sql Generic taker s = Fails
+in_postgre_sql PostgreSql taker s = taker s
+in_postgre_sql SQLServer taker s = Fails
 
-unfoldable pub getOpenParenToken : Dialect → List ℕ → Recognised
-getOpenParenToken dialect s =
-    tokenOf OpenParen
+unfoldable pub get_open_paren_token : Dialect → List ℕ → Recognised
+get_open_paren_token dialect s =
+    token_of OpenParen
     (or (literal (bytes "(") done s)
-    (or (inPostgreSql dialect (literal (bytes "[") done) s) (caseless (bytes "CASE") endOfWord s)))
+    (or (in_postgre_sql dialect (literal (bytes "[") done) s) (caseless (bytes "CASE") end_of_word s)))
 
-unfoldable pub getCloseParenToken : Dialect → List ℕ → Recognised
-getCloseParenToken dialect s =
-    tokenOf CloseParen
+unfoldable pub get_close_paren_token : Dialect → List ℕ → Recognised
+get_close_paren_token dialect s =
+    token_of CloseParen
     (or (literal (bytes ")") done s)
-    (or (inPostgreSql dialect (literal (bytes "]") done) s)
-    (or (caseless (bytes "END") (blanks (caseless (bytes "CASE") endOfWord)) s) (caseless (bytes "END") endOfWord s))))
+    (or (in_postgre_sql dialect (literal (bytes "]") done) s)
+    (or (caseless (bytes "END") (blanks (caseless (bytes "CASE") end_of_word)) s) (caseless (bytes "END") end_of_word s))))

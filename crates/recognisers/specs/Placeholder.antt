@@ -11,10 +11,10 @@ use Rattle.recognisers.specs.declared.TokenKind.TheVariants.{Placeholder}
 use Rattle.recognisers.specs.declared.Recognised.{Recognised}
 use Rattle.recognisers.specs.declared.Recognised.TheVariants.{Token, Nothing}
 use Rattle.recognisers.specs.Text.{byte, bytes}
-use Rattle.recognisers.specs.Taking.{Taker, more, or, done, one, literal, digit1, atLeast, contains, startsWith}
-use Rattle.recognisers.specs.Strings.{placeholderStringTaken, placeholderStringPairs}
-use Rattle.recognisers.specs.Pieces.{piece, quoteToken, alt}
-use Rattle.characters.specs.Classes.{isPlaceholderNameCharacter}
+use Rattle.recognisers.specs.Taking.{Taker, more, or, done, one, literal, digit1, at_least, contains, starts_with}
+use Rattle.recognisers.specs.Strings.{placeholder_string_taken, placeholder_string_pairs}
+use Rattle.recognisers.specs.Pieces.{piece, quote_token, alt}
+use Rattle.characters.specs.Classes.{is_placeholder_name_character}
 use Rattle.characters.specs.Runs.{run}
 
 -- a placeholder of what was taken, with the key that its length tells
@@ -23,81 +23,81 @@ keyed key (Bytes n) = Token (piece Placeholder n (key n))
 keyed key Fails = Nothing
 
 -- the number that ASCII digits spell, after a number that is read already
-unfoldable pub numberFrom : ℕ → List ℕ → ℕ
-numberFrom n [] = n
-numberFrom n (d ∷ digits) = numberFrom (n * 10 + (d - byte "0")) digits
+unfoldable pub number_from : ℕ → List ℕ → ℕ
+number_from n [] = n
+number_from n (d ∷ digits) = number_from (n * 10 + (d - byte "0")) digits
 
 -- that number where it fits 64 bits
-abbrev pub numberOf : List ℕ → Number
-numberOf digits = cond (ltb (numberFrom 0 digits) (2 ^ 64)) (Is (numberFrom 0 digits)) Overflows
+abbrev pub number_of : List ℕ → Number
+number_of digits = cond (ltb (number_from 0 digits) (2 ^ 64)) (Is (number_from 0 digits)) Overflows
 
 abbrev pub indexed : Bool → Number → Key
-indexed fromOne (Is n) = cond fromOne (OneIndexed n) (ZeroIndexed n)
-indexed fromOne Overflows = None
+indexed from_one (Is n) = cond from_one (OneIndexed n) (ZeroIndexed n)
+indexed from_one Overflows = None
 
 -- the key of a mark and n - 1 digits: none without digits, and none where the number does not fit 64 bits
-unfoldable pub indexedKey : List ℕ → ℕ → Key
-indexedKey s n = cond (leb n 1) None (indexed (startsWith (byte "$") s) (numberOf (take (n - 1) (drop 1 s))))
+unfoldable pub indexed_key : List ℕ → ℕ → Key
+indexed_key s n = cond (leb n 1) None (indexed (starts_with (byte "$") s) (number_of (take (n - 1) (drop 1 s))))
 
-unfoldable pub indexedTaken : Taker
-indexedTaken s = or (one (contains (bytes "?$")) (digit1 done) s) (literal (bytes "?") done s)
+unfoldable pub indexed_taken : Taker
+indexed_taken s = or (one (contains (bytes "?$")) (digit1 done) s) (literal (bytes "?") done s)
 
-unfoldable pub getIndexedPlaceholderToken : List ℕ → Recognised
-getIndexedPlaceholderToken s = keyed (indexedKey s) (indexedTaken s)
+unfoldable pub get_indexed_placeholder_token : List ℕ → Recognised
+get_indexed_placeholder_token s = keyed (indexed_key s) (indexed_taken s)
 
 -- the characters of a placeholder's name, one at least
-unfoldable pub placeholderName : Taker
-placeholderName s = atLeast 1 (run isPlaceholderNameCharacter 0 s)
+unfoldable pub placeholder_name : Taker
+placeholder_name s = at_least 1 (run is_placeholder_name_character 0 s)
 
-unfoldable pub identTaken : Taker
-identTaken s = one (contains (bytes "@:$")) placeholderName s
+unfoldable pub ident_taken : Taker
+ident_taken s = one (contains (bytes "@:$")) placeholder_name s
 
-unfoldable pub getIdentNamedPlaceholderToken : List ℕ → Recognised
-getIdentNamedPlaceholderToken s = keyed (λ n. Named 1 (n - 1)) (identTaken s)
+unfoldable pub get_ident_named_placeholder_token : List ℕ → Recognised
+get_ident_named_placeholder_token s = keyed (λ n. Named 1 (n - 1)) (ident_taken s)
 
 -- through the first `}`
-unfoldable pub throughBrace : Taker
-throughBrace [] = Fails
-throughBrace (b ∷ s) = cond (eqb b (byte "}")) (Bytes 1) (more 1 (throughBrace s))
+unfoldable pub through_brace : Taker
+through_brace [] = Fails
+through_brace (b ∷ s) = cond (eqb b (byte "}")) (Bytes 1) (more 1 (through_brace s))
 
 -- what stands between the braces must not be empty
-unfoldable pub bracedText : Taker
-bracedText s = cond (startsWith (byte "}") s) Fails (throughBrace s)
+unfoldable pub braced_text : Taker
+braced_text s = cond (starts_with (byte "}") s) Fails (through_brace s)
 
-unfoldable pub bracedTaken : Taker
-bracedTaken s = literal (bytes "{") bracedText s
+unfoldable pub braced_taken : Taker
+braced_taken s = literal (bytes "{") braced_text s
 
-unfoldable pub getBracedNamedPlaceholderToken : List ℕ → Recognised
-getBracedNamedPlaceholderToken s = keyed (λ n. Named 1 (n - 2)) (bracedTaken s)
+unfoldable pub get_braced_named_placeholder_token : List ℕ → Recognised
+get_braced_named_placeholder_token s = keyed (λ n. Named 1 (n - 2)) (braced_taken s)
 
 -- a backslash directly before the quote
-unfoldable pub hasEscape : ℕ → List ℕ → Bool
-hasEscape quote [] = false
-hasEscape quote (b ∷ s) = (eqb b (byte "\\") && startsWith quote s) || hasEscape quote s
+unfoldable pub has_escape : ℕ → List ℕ → Bool
+has_escape quote [] = false
+has_escape quote (b ∷ s) = (eqb b (byte "\\") && starts_with quote s) || has_escape quote s
 
 -- the key of a string placeholder: its text without the mark, the byte after that, and the closing quote. It has escapes
 -- to undo where a backslash stands in it before the quote character.
-unfoldable pub stringKey : List ℕ → ℕ → Key
-stringKey s n = cond (hasEscape (get_or s (n - 1) 0) (take (n - 3) (drop 2 s))) (Escaped 2 (n - 3)) (Named 2 (n - 3))
+unfoldable pub string_key : List ℕ → ℕ → Key
+string_key s n = cond (has_escape (get_or s (n - 1) 0) (take (n - 3) (drop 2 s))) (Escaped 2 (n - 3)) (Named 2 (n - 3))
 
-unfoldable pub stringNamedTaken : Dialect → Taker
-stringNamedTaken dialect s = one (contains (bytes "@:")) (placeholderStringTaken dialect) s
+unfoldable pub string_named_taken : Dialect → Taker
+string_named_taken dialect s = one (contains (bytes "@:")) (placeholder_string_taken dialect) s
 
 -- the pairs behind the mark
-unfoldable pub stringNamedPairs : List ℕ → ℕ
-stringNamedPairs value = placeholderStringPairs (drop 1 value)
+unfoldable pub string_named_pairs : List ℕ → ℕ
+string_named_pairs value = placeholder_string_pairs (drop 1 value)
 
-unfoldable pub getStringNamedPlaceholderToken : Dialect → List ℕ → Recognised
-getStringNamedPlaceholderToken dialect s =
-    quoteToken Placeholder (stringKey s) (λ n. stringNamedPairs (take n s)) (stringNamedTaken dialect s)
+unfoldable pub get_string_named_placeholder_token : Dialect → List ℕ → Recognised
+get_string_named_placeholder_token dialect s =
+    quote_token Placeholder (string_key s) (λ n. string_named_pairs (take n s)) (string_named_taken dialect s)
 
 -- the order of the alternatives goes by the setting
-unfoldable pub getPlaceholderToken : Bool → Dialect → List ℕ → Recognised
-getPlaceholderToken true dialect s =
-    alt (getIdentNamedPlaceholderToken s)
-    (alt (getStringNamedPlaceholderToken dialect s)
-    (alt (getIndexedPlaceholderToken s) (getBracedNamedPlaceholderToken s)))
-getPlaceholderToken false dialect s =
-    alt (getIndexedPlaceholderToken s)
-    (alt (getIdentNamedPlaceholderToken s)
-    (alt (getStringNamedPlaceholderToken dialect s) (getBracedNamedPlaceholderToken s)))
+unfoldable pub get_placeholder_token : Bool → Dialect → List ℕ → Recognised
+get_placeholder_token true dialect s =
+    alt (get_ident_named_placeholder_token s)
+    (alt (get_string_named_placeholder_token dialect s)
+    (alt (get_indexed_placeholder_token s) (get_braced_named_placeholder_token s)))
+get_placeholder_token false dialect s =
+    alt (get_indexed_placeholder_token s)
+    (alt (get_ident_named_placeholder_token s)
+    (alt (get_string_named_placeholder_token dialect s) (get_braced_named_placeholder_token s)))

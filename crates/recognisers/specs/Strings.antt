@@ -7,84 +7,84 @@ use Rattle.recognisers.specs.declared.Key.TheVariants.{None}
 use Rattle.recognisers.specs.declared.TokenKind.TheVariants.{String}
 use Rattle.recognisers.specs.declared.Recognised.{Recognised}
 use Rattle.recognisers.specs.Text.{byte, bytes}
-use Rattle.recognisers.specs.Taking.{Taker, more, or, literal, contains, startsWith, startsAmong}
-use Rattle.recognisers.specs.Pieces.{quoteToken}
+use Rattle.recognisers.specs.Taking.{Taker, more, or, literal, contains, starts_with, starts_among}
+use Rattle.recognisers.specs.Pieces.{quote_token}
 
 -- How many bytes stand before the first `desired` byte that is neither escaped nor an escape; it fails where there is none.
 -- (The Rust then takes the rest, and the `any` behind it fails.) An escape and the `desired` byte behind it are passed
 -- together: `behind` says that the next byte is such a one.
-unfoldable pub takeTillEscaping : ℕ → List ℕ → Bool → Taker
-takeTillEscaping desired escapes behind [] = Fails
-takeTillEscaping desired escapes true (b ∷ s) = more 1 (takeTillEscaping desired escapes false s)
-takeTillEscaping desired escapes false (b ∷ s) =
-    cond (not (contains escapes b && startsWith desired s) && eqb b desired) (Bytes 0)
-    (more 1 (takeTillEscaping desired escapes (contains escapes b && startsWith desired s) s))
+unfoldable pub take_till_escaping : ℕ → List ℕ → Bool → Taker
+take_till_escaping desired escapes behind [] = Fails
+take_till_escaping desired escapes true (b ∷ s) = more 1 (take_till_escaping desired escapes false s)
+take_till_escaping desired escapes false (b ∷ s) =
+    cond (not (contains escapes b && starts_with desired s) && eqb b desired) (Bytes 0)
+    (more 1 (take_till_escaping desired escapes (contains escapes b && starts_with desired s) s))
 
 -- How many pairs it passes on that way: it walks alike, and counts the byte behind an escape.
-unfoldable pub pairsPassed : ℕ → List ℕ → Bool → List ℕ → ℕ
-pairsPassed desired escapes behind [] = 0
-pairsPassed desired escapes true (b ∷ s) = suc (pairsPassed desired escapes false s)
-pairsPassed desired escapes false (b ∷ s) =
-    cond (not (contains escapes b && startsWith desired s) && eqb b desired) 0
-    (pairsPassed desired escapes (contains escapes b && startsWith desired s) s)
+unfoldable pub pairs_passed : ℕ → List ℕ → Bool → List ℕ → ℕ
+pairs_passed desired escapes behind [] = 0
+pairs_passed desired escapes true (b ∷ s) = suc (pairs_passed desired escapes false s)
+pairs_passed desired escapes false (b ∷ s) =
+    cond (not (contains escapes b && starts_with desired s) && eqb b desired) 0
+    (pairs_passed desired escapes (contains escapes b && starts_with desired s) s)
 
 -- the text up to its closing quote, and that
-unfoldable pub closedBy : ℕ → List ℕ → Taker
-closedBy desired escapes s = more 1 (takeTillEscaping desired escapes false s)
+unfoldable pub closed_by : ℕ → List ℕ → Taker
+closed_by desired escapes s = more 1 (take_till_escaping desired escapes false s)
 
-abbrev pub inSQLServer : Dialect → Taker → Taker
-inSQLServer Generic taker s = Fails
-inSQLServer PostgreSql taker s = Fails
-inSQLServer SQLServer taker s = taker s
+abbrev pub in_sql_server : Dialect → Taker → Taker
+in_sql_server Generic taker s = Fails
+in_sql_server PostgreSql taker s = Fails
+in_sql_server SQLServer taker s = taker s
 
 -- hexadecimal strings know no escapes
-unfoldable pub hexTaken : Taker
-hexTaken s = or (literal (bytes "x'") (closedBy (byte "'") []) s) (literal (bytes "X'") (closedBy (byte "'") []) s)
+unfoldable pub hex_taken : Taker
+hex_taken s = or (literal (bytes "x'") (closed_by (byte "'") []) s) (literal (bytes "X'") (closed_by (byte "'") []) s)
 
 -- strings in double or single quotes, national ones, those with an E before them
-unfoldable pub quotedTaken : Taker
-quotedTaken s =
-    or (literal (bytes "\"") (closedBy (byte "\"") (bytes "\"\\")) s)
-    (or (literal (bytes "'") (closedBy (byte "'") (bytes "'\\")) s)
-    (or (literal (bytes "N'") (closedBy (byte "'") (bytes "'\\")) s)
-    (or (literal (bytes "E'") (closedBy (byte "'") (bytes "'\\")) s) (hexTaken s))))
+unfoldable pub quoted_taken : Taker
+quoted_taken s =
+    or (literal (bytes "\"") (closed_by (byte "\"") (bytes "\"\\")) s)
+    (or (literal (bytes "'") (closed_by (byte "'") (bytes "'\\")) s)
+    (or (literal (bytes "N'") (closed_by (byte "'") (bytes "'\\")) s)
+    (or (literal (bytes "E'") (closed_by (byte "'") (bytes "'\\")) s) (hex_taken s))))
 
 -- the eight openers
-unfoldable pub stringTaken : Dialect → Taker
-stringTaken dialect s =
-    or (literal (bytes "`") (closedBy (byte "`") (bytes "`")) s)
-    (or (inSQLServer dialect (literal (bytes "[") (closedBy (byte "]") (bytes "]"))) s) (quotedTaken s))
+unfoldable pub string_taken : Dialect → Taker
+string_taken dialect s =
+    or (literal (bytes "`") (closed_by (byte "`") (bytes "`")) s)
+    (or (in_sql_server dialect (literal (bytes "[") (closed_by (byte "]") (bytes "]"))) s) (quoted_taken s))
 
 -- the pairs behind an opener of n bytes
-abbrev pub pairsBehind : ℕ → ℕ → List ℕ → List ℕ → ℕ
-pairsBehind n desired escapes value = pairsPassed desired escapes false (drop n value)
+abbrev pub pairs_behind : ℕ → ℕ → List ℕ → List ℕ → ℕ
+pairs_behind n desired escapes value = pairs_passed desired escapes false (drop n value)
 
 -- The pairs in a string, by its opener: what escapes single and double quotes is not the same in all places where strings stand, nor
 -- which letters may stand before a single quote. Hexadecimal strings know no escapes.
-unfoldable pub pairsIn : List ℕ → List ℕ → List ℕ → List ℕ → ℕ
-pairsIn single double letters value =
-    cond (startsWith (byte "`") value) (pairsBehind 1 (byte "`") (bytes "`") value)
-    (cond (startsWith (byte "[") value) (pairsBehind 1 (byte "]") (bytes "]") value)
-    (cond (startsWith (byte "\"") value) (pairsBehind 1 (byte "\"") double value)
-    (cond (startsWith (byte "'") value) (pairsBehind 1 (byte "'") single value)
-    (cond (startsAmong letters value) (pairsBehind 2 (byte "'") single value) 0))))
+unfoldable pub pairs_in : List ℕ → List ℕ → List ℕ → List ℕ → ℕ
+pairs_in single double letters value =
+    cond (starts_with (byte "`") value) (pairs_behind 1 (byte "`") (bytes "`") value)
+    (cond (starts_with (byte "[") value) (pairs_behind 1 (byte "]") (bytes "]") value)
+    (cond (starts_with (byte "\"") value) (pairs_behind 1 (byte "\"") double value)
+    (cond (starts_with (byte "'") value) (pairs_behind 1 (byte "'") single value)
+    (cond (starts_among letters value) (pairs_behind 2 (byte "'") single value) 0))))
 
-unfoldable pub stringPairs : List ℕ → ℕ
-stringPairs value = pairsIn (bytes "'\\") (bytes "\"\\") (bytes "NE") value
+unfoldable pub string_pairs : List ℕ → ℕ
+string_pairs value = pairs_in (bytes "'\\") (bytes "\"\\") (bytes "NE") value
 
-unfoldable pub getStringToken : Dialect → List ℕ → Recognised
-getStringToken dialect s = quoteToken String (λ n. None) (λ n. stringPairs (take n s)) (stringTaken dialect s)
+unfoldable pub get_string_token : Dialect → List ℕ → Recognised
+get_string_token dialect s = quote_token String (λ n. None) (λ n. string_pairs (take n s)) (string_taken dialect s)
 
 -- like the above, with other escapes
-unfoldable pub placeholderQuotedTaken : Taker
-placeholderQuotedTaken s =
-    or (literal (bytes "\"") (closedBy (byte "\"") (bytes "\\")) s)
-    (or (literal (bytes "'") (closedBy (byte "'") (bytes "\\")) s) (literal (bytes "N'") (closedBy (byte "'") (bytes "\\")) s))
+unfoldable pub placeholder_quoted_taken : Taker
+placeholder_quoted_taken s =
+    or (literal (bytes "\"") (closed_by (byte "\"") (bytes "\\")) s)
+    (or (literal (bytes "'") (closed_by (byte "'") (bytes "\\")) s) (literal (bytes "N'") (closed_by (byte "'") (bytes "\\")) s))
 
-unfoldable pub placeholderStringTaken : Dialect → Taker
-placeholderStringTaken dialect s =
-    or (literal (bytes "`") (closedBy (byte "`") (bytes "`")) s)
-    (or (inSQLServer dialect (literal (bytes "[") (closedBy (byte "]") (bytes "]"))) s) (placeholderQuotedTaken s))
+unfoldable pub placeholder_string_taken : Dialect → Taker
+placeholder_string_taken dialect s =
+    or (literal (bytes "`") (closed_by (byte "`") (bytes "`")) s)
+    (or (in_sql_server dialect (literal (bytes "[") (closed_by (byte "]") (bytes "]"))) s) (placeholder_quoted_taken s))
 
-unfoldable pub placeholderStringPairs : List ℕ → ℕ
-placeholderStringPairs value = pairsIn (bytes "\\") (bytes "\\") (bytes "N") value
+unfoldable pub placeholder_string_pairs : List ℕ → ℕ
+placeholder_string_pairs value = pairs_in (bytes "\\") (bytes "\\") (bytes "N") value

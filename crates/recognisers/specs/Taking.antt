@@ -4,8 +4,8 @@ use Rattle.std.specs.Prelude.{ℕ, suc, ◌+◌, ◌-◌, Bool, true, false, con
 use Rattle.recognisers.specs.declared.Taken.{Taken}
 use Rattle.recognisers.specs.declared.Taken.TheVariants.{Bytes, Fails}
 use Rattle.characters.specs.Ranges.{within}
-use Rattle.characters.specs.Classes.{isWhitespace, isWordCharacter}
-use Rattle.characters.specs.Character.{codePoint}
+use Rattle.characters.specs.Classes.{is_whitespace, is_word_character}
+use Rattle.characters.specs.Character.{code_point}
 use Rattle.characters.specs.Runs.{run}
 
 abbrev pub Taker : Type 0
@@ -36,10 +36,10 @@ spelled form [] then s = then s
 spelled form (w ∷ word) then s = one (λ b. eqb (form b) w) (spelled form word then) s
 
 -- a word stands at the start so
-unfoldable pub isSpelled : (ℕ → ℕ) → List ℕ → List ℕ → Bool
-isSpelled form [] s = true
-isSpelled form (w ∷ word) [] = false
-isSpelled form (w ∷ word) (b ∷ s) = eqb (form b) w && isSpelled form word s
+unfoldable pub is_spelled : (ℕ → ℕ) → List ℕ → List ℕ → Bool
+is_spelled form [] s = true
+is_spelled form (w ∷ word) [] = false
+is_spelled form (w ∷ word) (b ∷ s) = eqb (form b) w && is_spelled form word s
 
 unfoldable pub typed : ℕ → ℕ
 typed b = b
@@ -58,14 +58,14 @@ caseless word then = spelled capital word then
 
 -- at least one whitespace character, and all that follow
 unfoldable pub blanks : Taker → Taker
-blanks then s = cond (isWhitespace (codePoint s)) (more (run isWhitespace 0 s) (then (drop (run isWhitespace 0 s) s))) Fails
+blanks then s = cond (is_whitespace (code_point s)) (more (run is_whitespace 0 s) (then (drop (run is_whitespace 0 s) s))) Fails
 
 -- no word character comes next: the end of the text has code point 0, which is none
-unfoldable pub endOfWord : Taker
-endOfWord s = cond (isWordCharacter (codePoint s)) Fails (Bytes 0)
+unfoldable pub end_of_word : Taker
+end_of_word s = cond (is_word_character (code_point s)) Fails (Bytes 0)
 
-abbrev pub isDigit : ℕ → Bool
-isDigit b = within 0x30 0x39 b
+abbrev pub is_digit : ℕ → Bool
+is_digit b = within 0x30 0x39 b
 
 -- how many of the bytes at the start pass the test
 unfoldable pub count : (ℕ → Bool) → List ℕ → ℕ
@@ -74,15 +74,15 @@ count test (b ∷ s) = cond (test b) (suc (count test s)) 0
 
 -- ASCII digits, one at least, and all that follow
 unfoldable pub digit1 : Taker → Taker
-digit1 then s = cond (leb 1 (count isDigit s)) (more (count isDigit s) (then (drop (count isDigit s) s))) Fails
+digit1 then s = cond (leb 1 (count is_digit s)) (more (count is_digit s) (then (drop (count is_digit s) s))) Fails
 
 -- ASCII digits, or none
 unfoldable pub digit0 : Taker → Taker
-digit0 then s = more (count isDigit s) (then (drop (count isDigit s) s))
+digit0 then s = more (count is_digit s) (then (drop (count is_digit s) s))
 
 -- so many bytes, where there are that many at least
-abbrev pub atLeast : ℕ → ℕ → Taken
-atLeast least n = cond (leb least n) (Bytes n) Fails
+abbrev pub at_least : ℕ → ℕ → Taken
+at_least least n = cond (leb least n) (Bytes n) Fails
 
 -- how many bytes were taken
 abbrev pub taken : Taken → ℕ
@@ -95,11 +95,11 @@ contains [] b = false
 contains (e ∷ bytes) b = eqb b e || contains bytes b
 
 -- the byte stands at the start
-unfoldable pub startsWith : ℕ → List ℕ → Bool
-startsWith b [] = false
-startsWith b (c ∷ s) = eqb c b
+unfoldable pub starts_with : ℕ → List ℕ → Bool
+starts_with b [] = false
+starts_with b (c ∷ s) = eqb c b
 
 -- one of the bytes stands at the start
-unfoldable pub startsAmong : List ℕ → List ℕ → Bool
-startsAmong bytes [] = false
-startsAmong bytes (b ∷ s) = contains bytes b
+unfoldable pub starts_among : List ℕ → List ℕ → Bool
+starts_among bytes [] = false
+starts_among bytes (b ∷ s) = contains bytes b

@@ -5,8 +5,8 @@ use Rattle.recognisers.specs.declared.Recognised.{Recognised}
 use Rattle.recognisers.specs.declared.Recognised.TheVariants.{Nothing}
 use Rattle.recognisers.specs.Text.{bytes}
 use Rattle.recognisers.specs.Taking.{or, done, literal}
-use Rattle.recognisers.specs.Pieces.{tokenOf}
+use Rattle.recognisers.specs.Pieces.{token_of}
 
-unfoldable pub getTypeSpecifierToken : Bool → List ℕ → Recognised
-getTypeSpecifierToken allowed s =
-    cond allowed (tokenOf TypeSpecifier (or (literal (bytes "::") done s) (literal (bytes "[]") done s))) Nothing
+unfoldable pub get_type_specifier_token : Bool → List ℕ → Recognised
+get_type_specifier_token allowed s =
+    cond allowed (token_of TypeSpecifier (or (literal (bytes "::") done s) (literal (bytes "[]") done s))) Nothing

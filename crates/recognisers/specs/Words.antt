@@ -4,26 +4,26 @@ use Rattle.recognisers.specs.declared.Taken.TheVariants.{Fails}
 use Rattle.recognisers.specs.declared.TokenKind.TheVariants.{Whitespace, Operator, Word}
 use Rattle.recognisers.specs.declared.Recognised.{Recognised}
 use Rattle.recognisers.specs.Text.{byte, bytes}
-use Rattle.recognisers.specs.Taking.{count, atLeast, contains, startsWith}
-use Rattle.recognisers.specs.Pieces.{tokenOf}
-use Rattle.characters.specs.Classes.{isWhitespace, isWordCharacter}
-use Rattle.characters.specs.Character.{characterLength}
+use Rattle.recognisers.specs.Taking.{count, at_least, contains, starts_with}
+use Rattle.recognisers.specs.Pieces.{token_of}
+use Rattle.characters.specs.Classes.{is_whitespace, is_word_character}
+use Rattle.characters.specs.Character.{character_length}
 use Rattle.characters.specs.Runs.{run}
 
-unfoldable pub getWhitespaceToken : List ℕ → Recognised
-getWhitespaceToken s = tokenOf Whitespace (atLeast 1 (run isWhitespace 0 s))
+unfoldable pub get_whitespace_token : List ℕ → Recognised
+get_whitespace_token s = token_of Whitespace (at_least 1 (run is_whitespace 0 s))
 
-unfoldable pub isOperator : ℕ → Bool
-isOperator b = contains (bytes "!<>=|:-~*&@^?#/%") b
+unfoldable pub is_operator : ℕ → Bool
+is_operator b = contains (bytes "!<>=|:-~*&@^?#/%") b
 
 -- a run of 2 to 5
-unfoldable pub getOperatorToken : List ℕ → Recognised
-getOperatorToken s = tokenOf Operator (atLeast 2 (min (count isOperator s) 5))
+unfoldable pub get_operator_token : List ℕ → Recognised
+get_operator_token s = token_of Operator (at_least 2 (min (count is_operator s) 5))
 
-unfoldable pub getWordToken : List ℕ → Recognised
-getWordToken s = tokenOf Word (atLeast 1 (run isWordCharacter 0 s))
+unfoldable pub get_word_token : List ℕ → Recognised
+get_word_token s = token_of Word (at_least 1 (run is_word_character 0 s))
 
 -- one character, but no CR or LF
-unfoldable pub getAnyOtherChar : List ℕ → Recognised
-getAnyOtherChar s =
-    tokenOf Operator (cond (startsWith (byte "\n") s || startsWith (byte "\r") s) Fails (atLeast 1 (characterLength s)))
+unfoldable pub get_any_other_char : List ℕ → Recognised
+get_any_other_char s =
+    token_of Operator (cond (starts_with (byte "\n") s || starts_with (byte "\r") s) Fails (at_least 1 (character_length s)))

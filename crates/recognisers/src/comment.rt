@@ -1,7 +1,7 @@
 // `get_comment_token`.
 ghost use Rattle.std.specs.Prelude.{◌≡◌};
 ghost use Rattle.recognisers.specs.Taking.{literal};
-ghost use Rattle.recognisers.specs.Comment.{tillLineEnding, throughBlockEnd, getCommentToken};
+ghost use Rattle.recognisers.specs.Comment.{till_line_ending, through_block_end, get_comment_token};
 ghost use Rattle.recognisers.specs.Inner.Known.{Truthful};
 
 use crate::hints::{LINE, LONE};
@@ -10,7 +10,7 @@ use crate::{Recognised, Taken, TokenKind};
 
 // Up to LF, CR LF or the end; a CR without LF is refused.
 fn till_line_ending(rest: &[u8]) -> Taken
-    ensures { result ≡ tillLineEnding rest.now }
+    ensures { result ≡ till_line_ending rest.now }
 {
     let mut i = 0;
     while i < rest.len() {
@@ -31,7 +31,7 @@ fn till_line_ending(rest: &[u8]) -> Taken
 
 // Through the first `*/`, else to the end.
 fn through_block_end(rest: &[u8]) -> Taken
-    ensures { result ≡ throughBlockEnd rest.now }
+    ensures { result ≡ through_block_end rest.now }
 {
     let mut i = 0;
     while i < rest.len() {
@@ -46,7 +46,7 @@ fn through_block_end(rest: &[u8]) -> Taken
 // The same where hints are had: a line that a CR without LF ends is not read again.
 fn till_line_ending_known(rest: &[u8], hints: &[usize]) -> Taken
     requires { Truthful hints.now rest.now }
-    ensures { result ≡ tillLineEnding rest.now }
+    ensures { result ≡ till_line_ending rest.now }
 {
     if hints[LONE] <= rest.len() {
         if rest.len() <= hints[LINE] {
@@ -58,7 +58,7 @@ fn till_line_ending_known(rest: &[u8], hints: &[usize]) -> Taken
 
 fn line_comment(rest: &[u8], mark: &[u8], hints: &[usize]) -> Taken
     requires { Truthful hints.now rest.now }
-    ensures { result ≡ literal mark.now tillLineEnding rest.now }
+    ensures { result ≡ literal mark.now till_line_ending rest.now }
 {
     if is_spelled(rest, mark) {
         let n = mark.len();
@@ -68,7 +68,7 @@ fn line_comment(rest: &[u8], mark: &[u8], hints: &[usize]) -> Taken
 }
 
 fn block_comment(rest: &[u8], mark: &[u8]) -> Taken
-    ensures { result ≡ literal mark.now throughBlockEnd rest.now }
+    ensures { result ≡ literal mark.now through_block_end rest.now }
 {
     if is_spelled(rest, mark) {
         let n = mark.len();
@@ -81,7 +81,7 @@ fn block_comment(rest: &[u8], mark: &[u8]) -> Taken
 #[inline(always)]
 fn try_comment(rest: &[u8], hints: &[usize]) -> Recognised
     requires { Truthful hints.now rest.now }
-    ensures { result ≡ getCommentToken rest.now }
+    ensures { result ≡ get_comment_token rest.now }
 {
     if stands_at(rest, 0, b'#') {
         return token_of(TokenKind::LineComment, line_comment(rest, b"#", hints));
@@ -95,7 +95,7 @@ fn try_comment(rest: &[u8], hints: &[usize]) -> Recognised
 #[inline(always)]
 pub fn get_comment_token(rest: &[u8], hints: &[usize]) -> Recognised
     requires { Truthful hints.now rest.now }
-    ensures { result ≡ getCommentToken rest.now }
+    ensures { result ≡ get_comment_token rest.now }
 {
     if starts_among(rest, b"#-/") {
         return try_comment(rest, hints);

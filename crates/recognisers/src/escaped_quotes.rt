@@ -1,14 +1,14 @@
 // How many quotes of a string are escaped.
 ghost use Rattle.std.specs.Prelude.{◌≡◌, false};
-ghost use Rattle.recognisers.specs.Strings.{pairsPassed, pairsBehind, pairsIn, stringPairs};
-ghost use Rattle.recognisers.specs.Placeholder.{stringNamedPairs};
+ghost use Rattle.recognisers.specs.Strings.{pairs_passed, pairs_behind, pairs_in, string_pairs};
+ghost use Rattle.recognisers.specs.Placeholder.{string_named_pairs};
 
 use crate::scan::{stands_at, starts_among};
 use crate::strings::escaped_at;
 
 // The pairs that `take_till_escaping` passes.
 fn pairs_passed(rest: &[u8], desired: u8, escapes: &[u8]) -> usize
-    ensures { result ≡ pairsPassed desired escapes.now false rest.now }
+    ensures { result ≡ pairs_passed desired escapes.now false rest.now }
 {
     let mut pairs = 0;
     let mut i = 0;
@@ -28,7 +28,7 @@ fn pairs_passed(rest: &[u8], desired: u8, escapes: &[u8]) -> usize
 
 // Those behind an opener of n bytes.
 fn pairs_behind(value: &[u8], n: usize, desired: u8, escapes: &[u8]) -> usize
-    ensures { result ≡ pairsBehind n desired escapes.now value.now }
+    ensures { result ≡ pairs_behind n desired escapes.now value.now }
 {
     if value.len() < n {
         return 0;
@@ -38,7 +38,7 @@ fn pairs_behind(value: &[u8], n: usize, desired: u8, escapes: &[u8]) -> usize
 
 // Those of a string, by its opener.
 fn pairs_in(value: &[u8], single: &[u8], double: &[u8], letters: &[u8]) -> usize
-    ensures { result ≡ pairsIn single.now double.now letters.now value.now }
+    ensures { result ≡ pairs_in single.now double.now letters.now value.now }
 {
     if stands_at(value, 0, b'`') {
         return pairs_behind(value, 1, b'`', b"`");
@@ -59,14 +59,14 @@ fn pairs_in(value: &[u8], single: &[u8], double: &[u8], letters: &[u8]) -> usize
 }
 
 pub fn string_pairs(value: &[u8]) -> usize
-    ensures { result ≡ stringPairs value.now }
+    ensures { result ≡ string_pairs value.now }
 {
     pairs_in(value, b"'\\", b"\"\\", b"NE")
 }
 
 // Those of a string placeholder, behind its mark.
 pub fn string_named_pairs(value: &[u8]) -> usize
-    ensures { result ≡ stringNamedPairs value.now }
+    ensures { result ≡ string_named_pairs value.now }
 {
     if value.len() == 0 {
         return 0;

@@ -1,11 +1,11 @@
 // The kinds of tokens, numbered and compared.
 ghost use Rattle.std.specs.Prelude.{◌≡◌};
-ghost use Rattle.recognisers.specs.Kinds.{kindNumber, isKind};
+ghost use Rattle.recognisers.specs.Kinds.{kind_number, is_kind};
 
 use crate::TokenKind;
 
 pub fn kind_number(kind: TokenKind) -> u64
-    ensures { result ≡ kindNumber kind }
+    ensures { result ≡ kind_number kind }
 {
     match kind {
         TokenKind::TypeSpecifier => 0,
@@ -29,7 +29,7 @@ pub fn kind_number(kind: TokenKind) -> u64
 }
 
 pub fn is_kind(a: TokenKind, b: TokenKind) -> bool
-    ensures { result ≡ isKind a b }
+    ensures { result ≡ is_kind a b }
 {
     kind_number(a) == kind_number(b)
 }

@@ -1,8 +1,8 @@
 // What an opener that opens nothing tells of later ones: the look that failed is made once more, and not again for any rest that is
 // no longer.
 ghost use Rattle.std.specs.Prelude.{◌≤◌, ◌<◌, length};
-ghost use Rattle.recognisers.specs.Comment.{tillLineEnding};
-ghost use Rattle.recognisers.specs.Placeholder.{throughBrace};
+ghost use Rattle.recognisers.specs.Comment.{till_line_ending};
+ghost use Rattle.recognisers.specs.Placeholder.{through_brace};
 ghost use Rattle.recognisers.specs.Inner.Known.{Known, Barren, Truthful};
 
 use crate::hints::{BRACE, DOUBLE, LINE, LONE, SINGLE, SQUARE};
@@ -53,8 +53,8 @@ fn learn_single(text: &[u8], from: usize, hints: &mut [usize])
 }
 
 fn brace_behind(text: &[u8], from: usize, lacking: usize) -> usize
-    requires { Barren throughBrace text.now 0 lacking }
-    ensures { Barren throughBrace text.now 0 result }
+    requires { Barren through_brace text.now 0 lacking }
+    ensures { Barren through_brace text.now 0 result }
 {
     if text.len() < from {
         return lacking;
@@ -78,7 +78,7 @@ fn learn_brace(text: &[u8], from: usize, hints: &mut [usize])
 
 // How long the rest is where its line ends in a CR without LF; more than there is where it does not.
 fn lone_return(rest: &[u8]) -> usize
-    ensures { Barren tillLineEnding rest.now result (length rest.now) }
+    ensures { Barren till_line_ending rest.now result (length rest.now) }
 {
     let mut i = 0;
     while i < rest.len() {

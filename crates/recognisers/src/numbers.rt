@@ -1,7 +1,7 @@
 // `get_number_token`, `decimal_number` and `scientific_notation`.
 ghost use Rattle.std.specs.Prelude.{◌≡◌};
 ghost use Rattle.recognisers.specs.Taking.{done, one, literal, digit1, digit0, contains};
-ghost use Rattle.recognisers.specs.Number.{decimalNumber, signedDigits, exponent, scientificNotation, unsigned, getNumberToken};
+ghost use Rattle.recognisers.specs.Number.{decimal_number, signed_digits, exponent, scientific_notation, unsigned, get_number_token};
 
 use crate::scan::{
     at_least, count_digits, first_of, is_spelled, n_more, stands_at, starts_among,
@@ -26,13 +26,13 @@ pub fn marked_digits(rest: &[u8], marks: &[u8]) -> Taken
 }
 
 fn signed_digits(rest: &[u8]) -> Taken
-    ensures { result ≡ signedDigits rest.now }
+    ensures { result ≡ signed_digits rest.now }
 {
     first_of(marked_digits(rest, b"-+"), digits(rest))
 }
 
 fn exponent_after(rest: &[u8], mark: &[u8]) -> Taken
-    ensures { result ≡ literal mark.now signedDigits rest.now }
+    ensures { result ≡ literal mark.now signed_digits rest.now }
 {
     if is_spelled(rest, mark) {
         let n = mark.len();
@@ -84,7 +84,7 @@ fn point_fraction(rest: &[u8], point: &[u8]) -> Taken
 }
 
 fn decimal_exponent(rest: &[u8]) -> Taken
-    ensures { result ≡ decimalNumber exponent rest.now }
+    ensures { result ≡ decimal_number exponent rest.now }
 {
     let n = count_digits(rest);
     if n == 0 {
@@ -94,7 +94,7 @@ fn decimal_exponent(rest: &[u8]) -> Taken
 }
 
 fn decimal_number(rest: &[u8]) -> Taken
-    ensures { result ≡ decimalNumber done rest.now }
+    ensures { result ≡ decimal_number done rest.now }
 {
     let n = count_digits(rest);
     if n == 0 {
@@ -114,7 +114,7 @@ fn digits_exponent(rest: &[u8]) -> Taken
 }
 
 fn scientific_notation(rest: &[u8]) -> Taken
-    ensures { result ≡ scientificNotation rest.now }
+    ensures { result ≡ scientific_notation rest.now }
 {
     first_of(decimal_exponent(rest), digits_exponent(rest))
 }
@@ -143,7 +143,7 @@ fn negative_number(rest: &[u8], sign: &[u8]) -> Taken
 
 #[inline(always)]
 fn try_number(rest: &[u8]) -> Recognised
-    ensures { result ≡ getNumberToken rest.now }
+    ensures { result ≡ get_number_token rest.now }
 {
     if stands_at(rest, 0, b'-') {
         return token_of(TokenKind::Number, negative_number(rest, b"-"));
@@ -153,7 +153,7 @@ fn try_number(rest: &[u8]) -> Recognised
 
 #[inline(always)]
 pub fn get_number_token(rest: &[u8]) -> Recognised
-    ensures { result ≡ getNumberToken rest.now }
+    ensures { result ≡ get_number_token rest.now }
 {
     if starts_among(rest, b"-0123456789") {
         return try_number(rest);

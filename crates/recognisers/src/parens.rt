@@ -1,7 +1,7 @@
 // `get_open_paren_token` and `get_close_paren_token`.
 ghost use Rattle.std.specs.Prelude.{◌≡◌};
-ghost use Rattle.recognisers.specs.Taking.{done, literal, caseless, blanks, endOfWord};
-ghost use Rattle.recognisers.specs.Parens.{inPostgreSql, getOpenParenToken, getCloseParenToken};
+ghost use Rattle.recognisers.specs.Taking.{done, literal, caseless, blanks, end_of_word};
+ghost use Rattle.recognisers.specs.Parens.{in_postgre_sql, get_open_paren_token, get_close_paren_token};
 
 use crate::scan::{
     caseless_word, exactly, first_of, is_spelled_caseless, n_more, stands_at, starts_among,
@@ -11,7 +11,7 @@ use crate::{Dialect, Recognised, Taken, TokenKind};
 use characters::Class;
 
 fn square(rest: &[u8], bracket: &[u8], dialect: Dialect) -> Taken
-    ensures { result ≡ inPostgreSql dialect (literal bracket.now done) rest.now }
+    ensures { result ≡ in_postgre_sql dialect (literal bracket.now done) rest.now }
 {
     match dialect {
         Dialect::Generic => Taken::Fails,
@@ -22,7 +22,7 @@ fn square(rest: &[u8], bracket: &[u8], dialect: Dialect) -> Taken
 
 #[inline(always)]
 fn try_open_paren(rest: &[u8], dialect: Dialect) -> Recognised
-    ensures { result ≡ getOpenParenToken dialect rest.now }
+    ensures { result ≡ get_open_paren_token dialect rest.now }
 {
     if stands_at(rest, 0, b'[') {
         return token_of(TokenKind::OpenParen, square(rest, b"[", dialect));
@@ -35,7 +35,7 @@ fn try_open_paren(rest: &[u8], dialect: Dialect) -> Recognised
 
 #[inline(always)]
 pub fn get_open_paren_token(rest: &[u8], dialect: Dialect) -> Recognised
-    ensures { result ≡ getOpenParenToken dialect rest.now }
+    ensures { result ≡ get_open_paren_token dialect rest.now }
 {
     if starts_among(rest, b"([Cc") {
         return try_open_paren(rest, dialect);
@@ -45,7 +45,7 @@ pub fn get_open_paren_token(rest: &[u8], dialect: Dialect) -> Recognised
 
 // Whitespace, one character at least, and then a word in capitals.
 fn blanks_then_word(rest: &[u8], word: &[u8]) -> Taken
-    ensures { result ≡ blanks (caseless word.now endOfWord) rest.now }
+    ensures { result ≡ blanks (caseless word.now end_of_word) rest.now }
 {
     let n = characters::run_of(rest, Class::Whitespace);
     if n == 0 {
@@ -55,7 +55,7 @@ fn blanks_then_word(rest: &[u8], word: &[u8]) -> Taken
 }
 
 fn end_case(rest: &[u8], end: &[u8], case: &[u8]) -> Taken
-    ensures { result ≡ caseless end.now (blanks (caseless case.now endOfWord)) rest.now }
+    ensures { result ≡ caseless end.now (blanks (caseless case.now end_of_word)) rest.now }
 {
     if is_spelled_caseless(rest, end) {
         let n = end.len();
@@ -66,7 +66,7 @@ fn end_case(rest: &[u8], end: &[u8], case: &[u8]) -> Taken
 
 #[inline(always)]
 fn try_close_paren(rest: &[u8], dialect: Dialect) -> Recognised
-    ensures { result ≡ getCloseParenToken dialect rest.now }
+    ensures { result ≡ get_close_paren_token dialect rest.now }
 {
     if stands_at(rest, 0, b']') {
         return token_of(TokenKind::CloseParen, square(rest, b"]", dialect));
@@ -77,7 +77,7 @@ fn try_close_paren(rest: &[u8], dialect: Dialect) -> Recognised
 
 #[inline(always)]
 pub fn get_close_paren_token(rest: &[u8], dialect: Dialect) -> Recognised
-    ensures { result ≡ getCloseParenToken dialect rest.now }
+    ensures { result ≡ get_close_paren_token dialect rest.now }
 {
     if starts_among(rest, b")]Ee") {
         return try_close_paren(rest, dialect);

@@ -1,11 +1,11 @@
 // The four placeholders and their keys.
 ghost use Rattle.std.specs.Prelude.{◌≡◌, false, not, cond, ◌&&◌, ◌-◌, ◌≤◌, length};
-ghost use Rattle.recognisers.specs.Taking.{one, literal, contains, startsWith};
+ghost use Rattle.recognisers.specs.Taking.{one, literal, contains, starts_with};
 ghost use Rattle.recognisers.specs.Text.{byte};
 ghost use Rattle.recognisers.specs.Pieces.{alt};
 ghost use Rattle.recognisers.specs.declared.Recognised.TheVariants.{Nothing};
-ghost use Rattle.recognisers.specs.Strings.{placeholderStringTaken};
-ghost use Rattle.recognisers.specs.Placeholder.{numberOf, indexed, indexedKey, indexedTaken, getIndexedPlaceholderToken, placeholderName, identTaken, getIdentNamedPlaceholderToken, throughBrace, bracedText, bracedTaken, getBracedNamedPlaceholderToken, hasEscape, stringKey, stringNamedTaken, getStringNamedPlaceholderToken, getPlaceholderToken};
+ghost use Rattle.recognisers.specs.Strings.{placeholder_string_taken};
+ghost use Rattle.recognisers.specs.Placeholder.{number_of, indexed, indexed_key, indexed_taken, get_indexed_placeholder_token, placeholder_name, ident_taken, get_ident_named_placeholder_token, through_brace, braced_text, braced_taken, get_braced_named_placeholder_token, has_escape, string_key, string_named_taken, get_string_named_placeholder_token, get_placeholder_token};
 ghost use Rattle.recognisers.specs.Inner.Known.{Truthful};
 
 use crate::escaped_quotes::string_named_pairs;
@@ -26,7 +26,7 @@ fn digit_of(b: u8) -> u64
 
 // The number that the digits spell, where it fits 64 bits.
 fn number_of(digits: &[u8]) -> Number
-    ensures { result ≡ numberOf digits.now }
+    ensures { result ≡ number_of digits.now }
 {
     let mut n: u64 = 0;
     let mut i = 0;
@@ -59,7 +59,7 @@ fn indexed_by(from_one: bool, number: Number) -> Key
 
 fn indexed_key(rest: &[u8], n: usize) -> Key
     requires { n ≤ length rest.now }
-    ensures { result ≡ indexedKey rest.now n }
+    ensures { result ≡ indexed_key rest.now n }
 {
     if n <= 1 {
         return Key::None;
@@ -68,14 +68,14 @@ fn indexed_key(rest: &[u8], n: usize) -> Key
 }
 
 fn indexed_taken(rest: &[u8]) -> Taken
-    ensures { result ≡ indexedTaken rest.now }
+    ensures { result ≡ indexed_taken rest.now }
 {
     first_of(marked_digits(rest, b"?$"), exactly(rest, b"?"))
 }
 
 #[inline(always)]
 pub fn get_indexed_placeholder_token(rest: &[u8]) -> Recognised
-    ensures { result ≡ getIndexedPlaceholderToken rest.now }
+    ensures { result ≡ get_indexed_placeholder_token rest.now }
 {
     let part = indexed_taken(rest);
     match part {
@@ -100,13 +100,13 @@ fn less(n: usize, k: usize) -> usize
 }
 
 fn placeholder_name(rest: &[u8]) -> Taken
-    ensures { result ≡ placeholderName rest.now }
+    ensures { result ≡ placeholder_name rest.now }
 {
     at_least(1, characters::run_of(rest, Class::PlaceholderName))
 }
 
 fn marked_name(rest: &[u8], marks: &[u8]) -> Taken
-    ensures { result ≡ one (contains marks.now) placeholderName rest.now }
+    ensures { result ≡ one (contains marks.now) placeholder_name rest.now }
 {
     if starts_among(rest, marks) {
         return n_more(1, placeholder_name(&rest[1..]));
@@ -115,14 +115,14 @@ fn marked_name(rest: &[u8], marks: &[u8]) -> Taken
 }
 
 fn ident_taken(rest: &[u8]) -> Taken
-    ensures { result ≡ identTaken rest.now }
+    ensures { result ≡ ident_taken rest.now }
 {
     marked_name(rest, b"@:$")
 }
 
 #[inline(always)]
 pub fn get_ident_named_placeholder_token(rest: &[u8]) -> Recognised
-    ensures { result ≡ getIdentNamedPlaceholderToken rest.now }
+    ensures { result ≡ get_ident_named_placeholder_token rest.now }
 {
     let part = ident_taken(rest);
     match part {
@@ -141,7 +141,7 @@ pub fn get_ident_named_placeholder_token(rest: &[u8]) -> Recognised
 }
 
 pub fn through_brace(rest: &[u8]) -> Taken
-    ensures { result ≡ throughBrace rest.now }
+    ensures { result ≡ through_brace rest.now }
 {
     let mut i = 0;
     while i < rest.len() {
@@ -155,7 +155,7 @@ pub fn through_brace(rest: &[u8]) -> Taken
 
 fn braced_text(rest: &[u8], hints: &[usize]) -> Taken
     requires { Truthful hints.now rest.now }
-    ensures { result ≡ bracedText rest.now }
+    ensures { result ≡ braced_text rest.now }
 {
     if stands_at(rest, 0, b'}') {
         return Taken::Fails;
@@ -168,7 +168,7 @@ fn braced_text(rest: &[u8], hints: &[usize]) -> Taken
 
 fn braced_after(rest: &[u8], brace: &[u8], hints: &[usize]) -> Taken
     requires { Truthful hints.now rest.now }
-    ensures { result ≡ literal brace.now bracedText rest.now }
+    ensures { result ≡ literal brace.now braced_text rest.now }
 {
     if is_spelled(rest, brace) {
         let n = brace.len();
@@ -179,7 +179,7 @@ fn braced_after(rest: &[u8], brace: &[u8], hints: &[usize]) -> Taken
 
 fn braced_taken(rest: &[u8], hints: &[usize]) -> Taken
     requires { Truthful hints.now rest.now }
-    ensures { result ≡ bracedTaken rest.now }
+    ensures { result ≡ braced_taken rest.now }
 {
     braced_after(rest, b"{", hints)
 }
@@ -187,7 +187,7 @@ fn braced_taken(rest: &[u8], hints: &[usize]) -> Taken
 #[inline(always)]
 pub fn get_braced_named_placeholder_token(rest: &[u8], hints: &[usize]) -> Recognised
     requires { Truthful hints.now rest.now }
-    ensures { result ≡ getBracedNamedPlaceholderToken rest.now }
+    ensures { result ≡ get_braced_named_placeholder_token rest.now }
 {
     let part = braced_taken(rest, hints);
     match part {
@@ -207,7 +207,7 @@ pub fn get_braced_named_placeholder_token(rest: &[u8], hints: &[usize]) -> Recog
 
 // A backslash stands directly before the quote.
 fn has_escape(text: &[u8], quote: u8) -> bool
-    ensures { result ≡ hasEscape quote text.now }
+    ensures { result ≡ has_escape quote text.now }
 {
     let mut i = 0;
     while i < text.len() {
@@ -221,7 +221,7 @@ fn has_escape(text: &[u8], quote: u8) -> bool
 
 fn string_key(rest: &[u8], n: usize) -> Key
     requires { n ≤ length rest.now }
-    ensures { result ≡ stringKey rest.now n }
+    ensures { result ≡ string_key rest.now n }
 {
     if n < 3 {
         return Key::Named { start: 2, len: 0 };
@@ -242,7 +242,7 @@ fn string_key(rest: &[u8], n: usize) -> Key
 
 fn marked_string(rest: &[u8], marks: &[u8], dialect: Dialect, hints: &[usize]) -> Taken
     requires { Truthful hints.now rest.now }
-    ensures { result ≡ one (contains marks.now) (placeholderStringTaken dialect) rest.now }
+    ensures { result ≡ one (contains marks.now) (placeholder_string_taken dialect) rest.now }
 {
     if starts_among(rest, marks) {
         return n_more(1, placeholder_string_taken(&rest[1..], dialect, hints));
@@ -252,7 +252,7 @@ fn marked_string(rest: &[u8], marks: &[u8], dialect: Dialect, hints: &[usize]) -
 
 fn string_named_taken(rest: &[u8], dialect: Dialect, hints: &[usize]) -> Taken
     requires { Truthful hints.now rest.now }
-    ensures { result ≡ stringNamedTaken dialect rest.now }
+    ensures { result ≡ string_named_taken dialect rest.now }
 {
     marked_string(rest, b"@:", dialect, hints)
 }
@@ -264,7 +264,7 @@ pub fn get_string_named_placeholder_token(
     hints: &[usize],
 ) -> Recognised
     requires { Truthful hints.now rest.now }
-    ensures { result ≡ getStringNamedPlaceholderToken dialect rest.now }
+    ensures { result ≡ get_string_named_placeholder_token dialect rest.now }
 {
     let part = string_named_taken(rest, dialect, hints);
     match part {
@@ -285,7 +285,7 @@ pub fn get_string_named_placeholder_token(
 
 // An index, where it comes before a name: always with places first, else behind `?`, where no name can stand.
 fn index_before_name(rest: &[u8], named: bool) -> Recognised
-    ensures { result ≡ cond (named && not (startsWith (byte "?") rest.now)) Nothing (getIndexedPlaceholderToken rest.now) }
+    ensures { result ≡ cond (named && not (starts_with (byte "?") rest.now)) Nothing (get_indexed_placeholder_token rest.now) }
 {
     if named {
         if stands_at(rest, 0, b'?') {
@@ -298,7 +298,7 @@ fn index_before_name(rest: &[u8], named: bool) -> Recognised
 
 fn name_or_string(rest: &[u8], dialect: Dialect, hints: &[usize]) -> Recognised
     requires { Truthful hints.now rest.now }
-    ensures { result ≡ alt (getIdentNamedPlaceholderToken rest.now) (getStringNamedPlaceholderToken dialect rest.now) }
+    ensures { result ≡ alt (get_ident_named_placeholder_token rest.now) (get_string_named_placeholder_token dialect rest.now) }
 {
     match get_ident_named_placeholder_token(rest) {
         Recognised::Token(piece) => Recognised::Token(piece),
@@ -310,8 +310,8 @@ fn name_or_string(rest: &[u8], dialect: Dialect, hints: &[usize]) -> Recognised
 #[inline(always)]
 fn without_braces(rest: &[u8], named: bool, dialect: Dialect, hints: &[usize]) -> Recognised
     requires truthful { Truthful hints.now rest.now }
-    requires rest_value { startsWith (byte "{") rest.now ≡ false }
-    ensures { result ≡ getPlaceholderToken named dialect rest.now }
+    requires rest_value { starts_with (byte "{") rest.now ≡ false }
+    ensures { result ≡ get_placeholder_token named dialect rest.now }
 {
     match index_before_name(rest, named) {
         Recognised::Token(piece) => Recognised::Token(piece),
@@ -322,7 +322,7 @@ fn without_braces(rest: &[u8], named: bool, dialect: Dialect, hints: &[usize]) -
 #[inline(always)]
 fn try_placeholder(rest: &[u8], named: bool, dialect: Dialect, hints: &[usize]) -> Recognised
     requires { Truthful hints.now rest.now }
-    ensures { result ≡ getPlaceholderToken named dialect rest.now }
+    ensures { result ≡ get_placeholder_token named dialect rest.now }
 {
     if stands_at(rest, 0, b'{') {
         return get_braced_named_placeholder_token(rest, hints);
@@ -338,7 +338,7 @@ pub fn get_placeholder_token(
     hints: &[usize],
 ) -> Recognised
     requires { Truthful hints.now rest.now }
-    ensures { result ≡ getPlaceholderToken named dialect rest.now }
+    ensures { result ≡ get_placeholder_token named dialect rest.now }
 {
     if starts_among(rest, b"?@:${") {
         return try_placeholder(rest, named, dialect, hints);

@@ -1,9 +1,9 @@
 // What the recognisers are made of.
 ghost use Rattle.std.specs.Prelude.{◌≡◌, ◌+◌, ◌^◌, ◌<◌, leb, eqb, ◌&&◌, length, drop};
 ghost use Rattle.characters.specs.Ranges.{within};
-ghost use Rattle.recognisers.specs.Taking.{taken, more, or, done, literal, caseless, typed, capital, isSpelled, endOfWord, isDigit, count, atLeast, contains, startsWith, startsAmong};
-ghost use Rattle.recognisers.specs.Pieces.{tokenOf};
-ghost use Rattle.recognisers.specs.Inner.WordLength.{wordLength};
+ghost use Rattle.recognisers.specs.Taking.{taken, more, or, done, literal, caseless, typed, capital, is_spelled, end_of_word, is_digit, count, at_least, contains, starts_with, starts_among};
+ghost use Rattle.recognisers.specs.Pieces.{token_of};
+ghost use Rattle.recognisers.specs.Inner.WordLength.{word_length};
 
 use crate::{Key, Piece, Recognised, Taken, TokenKind};
 
@@ -22,7 +22,7 @@ pub fn is_among(bytes: &[u8], b: u8) -> bool
 
 // The word stands at the start, as typed.
 pub fn is_spelled(rest: &[u8], word: &[u8]) -> bool
-    ensures { result ≡ isSpelled typed word.now rest.now }
+    ensures { result ≡ is_spelled typed word.now rest.now }
 {
     if rest.len() < word.len() {
         return false;
@@ -40,7 +40,7 @@ pub fn is_spelled(rest: &[u8], word: &[u8]) -> bool
 
 // The byte at i is b.
 pub fn stands_at(rest: &[u8], i: usize, b: u8) -> bool
-    ensures { result ≡ startsWith b (drop i rest.now) }
+    ensures { result ≡ starts_with b (drop i rest.now) }
 {
     if i < rest.len() {
         return rest[i] == b;
@@ -51,7 +51,7 @@ pub fn stands_at(rest: &[u8], i: usize, b: u8) -> bool
 // The bytes at i are a and b.
 pub fn pair_stands_at(rest: &[u8], i: usize, a: u8, b: u8) -> bool
     requires { i < length rest.now }
-    ensures { result ≡ (startsWith a (drop i rest.now) && startsWith b (drop (i + 1) rest.now)) }
+    ensures { result ≡ (starts_with a (drop i rest.now) && starts_with b (drop (i + 1) rest.now)) }
 {
     stands_at(rest, i, a) && stands_at(rest, i + 1, b)
 }
@@ -81,7 +81,7 @@ fn capital_is(b: u8, w: u8) -> bool
 
 // The word, which is in capitals, stands at the start in either case.
 pub fn is_spelled_caseless(rest: &[u8], word: &[u8]) -> bool
-    ensures { result ≡ isSpelled capital word.now rest.now }
+    ensures { result ≡ is_spelled capital word.now rest.now }
 {
     if rest.len() < word.len() {
         return false;
@@ -98,13 +98,13 @@ pub fn is_spelled_caseless(rest: &[u8], word: &[u8]) -> bool
 }
 
 fn is_digit(b: u8) -> bool
-    ensures { result ≡ isDigit b }
+    ensures { result ≡ is_digit b }
 {
     0x30 <= b && b <= 0x39
 }
 
 pub fn starts_with_digit(rest: &[u8]) -> bool
-    ensures { result ≡ leb 1 (count isDigit rest.now) }
+    ensures { result ≡ leb 1 (count is_digit rest.now) }
 {
     if rest.len() == 0 {
         return false;
@@ -113,7 +113,7 @@ pub fn starts_with_digit(rest: &[u8]) -> bool
 }
 
 pub fn count_digits(rest: &[u8]) -> usize
-    ensures { result ≡ count isDigit rest.now }
+    ensures { result ≡ count is_digit rest.now }
 {
     let mut i = 0;
     while i < rest.len() {
@@ -128,7 +128,7 @@ pub fn count_digits(rest: &[u8]) -> usize
 
 // How many ASCII word characters stand at the start.
 pub fn word_length(rest: &[u8]) -> usize
-    ensures { result ≡ wordLength rest.now }
+    ensures { result ≡ word_length rest.now }
 {
     let mut i = 0;
     while i < rest.len() {
@@ -161,7 +161,7 @@ pub fn first_of(a: Taken, b: Taken) -> Taken
 }
 
 pub fn at_least(least: usize, n: usize) -> Taken
-    ensures { result ≡ atLeast least n }
+    ensures { result ≡ at_least least n }
 {
     if least <= n {
         Taken::Bytes(n)
@@ -171,7 +171,7 @@ pub fn at_least(least: usize, n: usize) -> Taken
 }
 
 pub fn end_of_word(rest: &[u8]) -> Taken
-    ensures { result ≡ endOfWord rest.now }
+    ensures { result ≡ end_of_word rest.now }
 {
     let c = characters::character_at(rest, 0);
     if characters::is_word_character(c.code_point) {
@@ -183,7 +183,7 @@ pub fn end_of_word(rest: &[u8]) -> Taken
 
 // One of the marks stands at the start.
 pub fn starts_among(rest: &[u8], marks: &[u8]) -> bool
-    ensures { result ≡ startsAmong marks.now rest.now }
+    ensures { result ≡ starts_among marks.now rest.now }
 {
     if rest.len() == 0 {
         return false;
@@ -203,7 +203,7 @@ pub fn exactly(rest: &[u8], word: &[u8]) -> Taken
 
 // The word in either case, and no word character behind it.
 pub fn caseless_word(rest: &[u8], word: &[u8]) -> Taken
-    ensures { result ≡ caseless word.now endOfWord rest.now }
+    ensures { result ≡ caseless word.now end_of_word rest.now }
 {
     if is_spelled_caseless(rest, word) {
         let n = word.len();
@@ -213,7 +213,7 @@ pub fn caseless_word(rest: &[u8], word: &[u8]) -> Taken
 }
 
 pub fn token_of(kind: TokenKind, t: Taken) -> Recognised
-    ensures { result ≡ tokenOf kind t }
+    ensures { result ≡ token_of kind t }
 {
     match t {
         Taken::Bytes(n) => Recognised::Token(Piece {

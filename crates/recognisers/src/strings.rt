@@ -1,8 +1,8 @@
 // `take_till_escaping`, `get_string_token` and `get_placeholder_string_token`.
 ghost use Rattle.std.specs.Prelude.{◌≡◌, true, false, ◌&&◌, ◌+◌, ◌<◌, length, drop, get_or};
 ghost use Rattle.recognisers.specs.Text.{byte, bytes};
-ghost use Rattle.recognisers.specs.Taking.{more, or, literal, contains, startsWith};
-ghost use Rattle.recognisers.specs.Strings.{takeTillEscaping, closedBy, inSQLServer, hexTaken, stringTaken, getStringToken, placeholderStringTaken};
+ghost use Rattle.recognisers.specs.Taking.{more, or, literal, contains, starts_with};
+ghost use Rattle.recognisers.specs.Strings.{take_till_escaping, closed_by, in_sql_server, hex_taken, string_taken, get_string_token, placeholder_string_taken};
 ghost use Rattle.recognisers.specs.Inner.Known.{Known, Truthful};
 
 use crate::escaped_quotes::string_pairs;
@@ -13,13 +13,13 @@ use crate::{Dialect, Key, Piece, Recognised, Taken, TokenKind};
 // An escape stands at i, and the desired byte behind it.
 pub fn escaped_at(rest: &[u8], i: usize, desired: u8, escapes: &[u8]) -> bool
     requires { i < length rest.now }
-    ensures { result ≡ (startsWith desired (drop (i + 1) rest.now) && contains escapes.now (get_or rest.now i 0)) }
+    ensures { result ≡ (starts_with desired (drop (i + 1) rest.now) && contains escapes.now (get_or rest.now i 0)) }
 {
     stands_at(rest, i + 1, desired) && is_among(escapes, rest[i])
 }
 
 pub fn take_till_escaping(rest: &[u8], desired: u8, escapes: &[u8]) -> Taken
-    ensures { result ≡ takeTillEscaping desired escapes.now false rest.now }
+    ensures { result ≡ take_till_escaping desired escapes.now false rest.now }
 {
     let mut i = 0;
     while i < rest.len() {
@@ -39,7 +39,7 @@ pub fn take_till_escaping(rest: &[u8], desired: u8, escapes: &[u8]) -> Taken
 // start are read.
 fn take_till_escaping_known(rest: &[u8], desired: u8, escapes: &[u8], known: usize) -> Taken
     requires { Known desired escapes.now rest.now known }
-    ensures { result ≡ takeTillEscaping desired escapes.now false rest.now }
+    ensures { result ≡ take_till_escaping desired escapes.now false rest.now }
 {
     if known < rest.len() {
         return take_till_escaping(rest, desired, escapes);
@@ -57,13 +57,13 @@ fn take_till_escaping_known(rest: &[u8], desired: u8, escapes: &[u8], known: usi
 
 // `(take_till_escaping(..), any)`: through the closing quote.
 fn closed_by(rest: &[u8], desired: u8, escapes: &[u8]) -> Taken
-    ensures { result ≡ closedBy desired escapes.now rest.now }
+    ensures { result ≡ closed_by desired escapes.now rest.now }
 {
     n_more(1, take_till_escaping(rest, desired, escapes))
 }
 
 fn quoted(rest: &[u8], opener: &[u8], desired: u8, escapes: &[u8]) -> Taken
-    ensures { result ≡ literal opener.now (closedBy desired escapes.now) rest.now }
+    ensures { result ≡ literal opener.now (closed_by desired escapes.now) rest.now }
 {
     if is_spelled(rest, opener) {
         let n = opener.len();
@@ -74,7 +74,7 @@ fn quoted(rest: &[u8], opener: &[u8], desired: u8, escapes: &[u8]) -> Taken
 
 fn closed_by_known(rest: &[u8], desired: u8, escapes: &[u8], known: usize) -> Taken
     requires { Known desired escapes.now rest.now known }
-    ensures { result ≡ closedBy desired escapes.now rest.now }
+    ensures { result ≡ closed_by desired escapes.now rest.now }
 {
     n_more(1, take_till_escaping_known(rest, desired, escapes, known))
 }
@@ -82,7 +82,7 @@ fn closed_by_known(rest: &[u8], desired: u8, escapes: &[u8], known: usize) -> Ta
 // Behind an opener of one byte.
 fn quoted_known(rest: &[u8], desired: u8, escapes: &[u8], known: usize) -> Taken
     requires { Known desired escapes.now rest.now known }
-    ensures { result ≡ more 1 (closedBy desired escapes.now (drop 1 rest.now)) }
+    ensures { result ≡ more 1 (closed_by desired escapes.now (drop 1 rest.now)) }
 {
     if rest.len() == 0 {
         return Taken::Fails;
@@ -92,8 +92,8 @@ fn quoted_known(rest: &[u8], desired: u8, escapes: &[u8], known: usize) -> Taken
 
 fn bracketed(rest: &[u8], dialect: Dialect, hints: &[usize]) -> Taken
     requires truthful { Truthful hints.now rest.now }
-    requires rest_value { startsWith (byte "[") rest.now ≡ true }
-    ensures { result ≡ inSQLServer dialect (literal (bytes "[") (closedBy (byte "]") (bytes "]"))) rest.now }
+    requires rest_value { starts_with (byte "[") rest.now ≡ true }
+    ensures { result ≡ in_sql_server dialect (literal (bytes "[") (closed_by (byte "]") (bytes "]"))) rest.now }
 {
     match dialect {
         Dialect::Generic => Taken::Fails,
@@ -103,7 +103,7 @@ fn bracketed(rest: &[u8], dialect: Dialect, hints: &[usize]) -> Taken
 }
 
 fn hex_taken(rest: &[u8]) -> Taken
-    ensures { result ≡ hexTaken rest.now }
+    ensures { result ≡ hex_taken rest.now }
 {
     first_of(
         quoted(rest, b"x'", b'\'', b""),
@@ -113,7 +113,7 @@ fn hex_taken(rest: &[u8]) -> Taken
 
 // National strings, those with an E before them, and hexadecimal ones.
 fn prefixed_taken(rest: &[u8]) -> Taken
-    ensures { result ≡ or (literal (bytes "N'") (closedBy (byte "'") (bytes "'\\")) rest.now) (or (literal (bytes "E'") (closedBy (byte "'") (bytes "'\\")) rest.now) (hexTaken rest.now)) }
+    ensures { result ≡ or (literal (bytes "N'") (closed_by (byte "'") (bytes "'\\")) rest.now) (or (literal (bytes "E'") (closed_by (byte "'") (bytes "'\\")) rest.now) (hex_taken rest.now)) }
 {
     let national = quoted(rest, b"N'", b'\'', b"'\\");
     let escape = quoted(rest, b"E'", b'\'', b"'\\");
@@ -123,7 +123,7 @@ fn prefixed_taken(rest: &[u8]) -> Taken
 // By the opener's first byte.
 fn string_taken(rest: &[u8], dialect: Dialect, hints: &[usize]) -> Taken
     requires { Truthful hints.now rest.now }
-    ensures { result ≡ stringTaken dialect rest.now }
+    ensures { result ≡ string_taken dialect rest.now }
 {
     if stands_at(rest, 0, b'\'') {
         return quoted_known(rest, b'\'', b"'\\", hints[SINGLE]);
@@ -146,7 +146,7 @@ fn string_taken(rest: &[u8], dialect: Dialect, hints: &[usize]) -> Taken
 #[inline(always)]
 fn try_string(rest: &[u8], dialect: Dialect, hints: &[usize]) -> Recognised
     requires { Truthful hints.now rest.now }
-    ensures { result ≡ getStringToken dialect rest.now }
+    ensures { result ≡ get_string_token dialect rest.now }
 {
     match string_taken(rest, dialect, hints) {
         Taken::Bytes(n) => {
@@ -166,7 +166,7 @@ fn try_string(rest: &[u8], dialect: Dialect, hints: &[usize]) -> Recognised
 #[inline(always)]
 pub fn get_string_token(rest: &[u8], dialect: Dialect, hints: &[usize]) -> Recognised
     requires { Truthful hints.now rest.now }
-    ensures { result ≡ getStringToken dialect rest.now }
+    ensures { result ≡ get_string_token dialect rest.now }
 {
     if starts_among(rest, b"'\"`[NExX") {
         return try_string(rest, dialect, hints);
@@ -177,7 +177,7 @@ pub fn get_string_token(rest: &[u8], dialect: Dialect, hints: &[usize]) -> Recog
 // Like `string_taken`, with other escapes.
 pub fn placeholder_string_taken(rest: &[u8], dialect: Dialect, hints: &[usize]) -> Taken
     requires { Truthful hints.now rest.now }
-    ensures { result ≡ placeholderStringTaken dialect rest.now }
+    ensures { result ≡ placeholder_string_taken dialect rest.now }
 {
     if stands_at(rest, 0, b'\'') {
         return quoted(rest, b"'", b'\'', b"\\");

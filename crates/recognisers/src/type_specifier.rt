@@ -2,15 +2,15 @@
 ghost use Rattle.std.specs.Prelude.{◌≡◌};
 ghost use Rattle.recognisers.specs.Text.{bytes};
 ghost use Rattle.recognisers.specs.Taking.{or, done, literal};
-ghost use Rattle.recognisers.specs.Pieces.{tokenOf};
-ghost use Rattle.recognisers.specs.TypeSpecifier.{getTypeSpecifierToken};
+ghost use Rattle.recognisers.specs.Pieces.{token_of};
+ghost use Rattle.recognisers.specs.TypeSpecifier.{get_type_specifier_token};
 ghost use Rattle.recognisers.specs.declared.TokenKind.TheVariants.{TypeSpecifier};
 
 use crate::scan::{exactly, first_of, starts_among, token_of};
 use crate::{Recognised, TokenKind};
 
 fn type_specifier(rest: &[u8]) -> Recognised
-    ensures { result ≡ tokenOf TypeSpecifier (or (literal (bytes "::") done rest.now) (literal (bytes "[]") done rest.now)) }
+    ensures { result ≡ token_of TypeSpecifier (or (literal (bytes "::") done rest.now) (literal (bytes "[]") done rest.now)) }
 {
     token_of(
         TokenKind::TypeSpecifier,
@@ -21,7 +21,7 @@ fn type_specifier(rest: &[u8]) -> Recognised
 // The token before allows one, or there is none.
 #[inline(always)]
 fn try_type_specifier(rest: &[u8], allowed: bool) -> Recognised
-    ensures { result ≡ getTypeSpecifierToken allowed rest.now }
+    ensures { result ≡ get_type_specifier_token allowed rest.now }
 {
     if allowed {
         return type_specifier(rest);
@@ -31,7 +31,7 @@ fn try_type_specifier(rest: &[u8], allowed: bool) -> Recognised
 
 #[inline(always)]
 pub fn get_type_specifier_token(rest: &[u8], allowed: bool) -> Recognised
-    ensures { result ≡ getTypeSpecifierToken allowed rest.now }
+    ensures { result ≡ get_type_specifier_token allowed rest.now }
 {
     if starts_among(rest, b":[") {
         return try_type_specifier(rest, allowed);

@@ -1,11 +1,11 @@
 // `get_whitespace_token`, `get_operator_token`, `get_word_token` and `get_any_other_char`.
 ghost use Rattle.std.specs.Prelude.{◌≡◌, ◌||◌, min};
-ghost use Rattle.recognisers.specs.Taking.{count, startsWith};
+ghost use Rattle.recognisers.specs.Taking.{count, starts_with};
 ghost use Rattle.recognisers.specs.Text.{byte};
-ghost use Rattle.recognisers.specs.Inner.WordLength.{wordLength};
-ghost use Rattle.characters.specs.Classes.{isWordCharacter};
+ghost use Rattle.recognisers.specs.Inner.WordLength.{word_length};
+ghost use Rattle.characters.specs.Classes.{is_word_character};
 ghost use Rattle.characters.specs.Runs.{run};
-ghost use Rattle.recognisers.specs.Words.{getWhitespaceToken, isOperator, getOperatorToken, getWordToken, getAnyOtherChar};
+ghost use Rattle.recognisers.specs.Words.{get_whitespace_token, is_operator, get_operator_token, get_word_token, get_any_other_char};
 
 use crate::scan::{at_least, is_among, stands_at, starts_among, token_of};
 use crate::{Recognised, TokenKind};
@@ -13,7 +13,7 @@ use characters::Class;
 
 #[inline(always)]
 fn try_whitespace(rest: &[u8]) -> Recognised
-    ensures { result ≡ getWhitespaceToken rest.now }
+    ensures { result ≡ get_whitespace_token rest.now }
 {
     token_of(
         TokenKind::Whitespace,
@@ -24,7 +24,7 @@ fn try_whitespace(rest: &[u8]) -> Recognised
 // No other byte begins whitespace; C0, E0 and F0 begin none in a well-formed text.
 #[inline(always)]
 pub fn get_whitespace_token(rest: &[u8]) -> Recognised
-    ensures { result ≡ getWhitespaceToken rest.now }
+    ensures { result ≡ get_whitespace_token rest.now }
 {
     if starts_among(rest, b"\x09\x0A\x0B\x0C\x0D \xC0\xC2\xE0\xE1\xE2\xE3\xF0") {
         return try_whitespace(rest);
@@ -34,13 +34,13 @@ pub fn get_whitespace_token(rest: &[u8]) -> Recognised
 
 // In two halves: eight bytes are one test.
 fn is_operator(b: u8) -> bool
-    ensures { result ≡ isOperator b }
+    ensures { result ≡ is_operator b }
 {
     is_among(b"!<>=|:-~", b) || is_among(b"*&@^?#/%", b)
 }
 
 fn count_operators(rest: &[u8]) -> usize
-    ensures { result ≡ count isOperator rest.now }
+    ensures { result ≡ count is_operator rest.now }
 {
     let mut i = 0;
     while i < rest.len() {
@@ -62,7 +62,7 @@ fn at_most_five(n: usize) -> usize
 // Five bytes are enough to look at.
 #[inline(always)]
 fn few_operators(rest: &[u8]) -> usize
-    ensures { result ≡ min (count isOperator rest.now) 5 }
+    ensures { result ≡ min (count is_operator rest.now) 5 }
 {
     let n = at_most_five(rest.len());
     count_operators(&rest[..n])
@@ -70,7 +70,7 @@ fn few_operators(rest: &[u8]) -> usize
 
 #[inline(always)]
 pub fn get_operator_token(rest: &[u8]) -> Recognised
-    ensures { result ≡ getOperatorToken rest.now }
+    ensures { result ≡ get_operator_token rest.now }
 {
     token_of(TokenKind::Operator, at_least(2, few_operators(rest)))
 }
@@ -78,8 +78,8 @@ pub fn get_operator_token(rest: &[u8]) -> Recognised
 // The end of a word that begins with so many ASCII word characters.
 #[inline(always)]
 fn word_end(rest: &[u8], word: usize) -> usize
-    requires { word ≡ wordLength rest.now }
-    ensures { result ≡ run isWordCharacter 0 rest.now }
+    requires { word ≡ word_length rest.now }
+    ensures { result ≡ run is_word_character 0 rest.now }
 {
     if rest.len() <= word {
         return word;
@@ -93,14 +93,14 @@ fn word_end(rest: &[u8], word: usize) -> usize
 // `word` is what `word_length` tells of the rest.
 #[inline(always)]
 pub fn get_word_token(rest: &[u8], word: usize) -> Recognised
-    requires { word ≡ wordLength rest.now }
-    ensures { result ≡ getWordToken rest.now }
+    requires { word ≡ word_length rest.now }
+    ensures { result ≡ get_word_token rest.now }
 {
     token_of(TokenKind::Word, at_least(1, word_end(rest, word)))
 }
 
 fn is_line_break(rest: &[u8]) -> bool
-    ensures { result ≡ (startsWith (byte "\n") rest.now || startsWith (byte "\r") rest.now) }
+    ensures { result ≡ (starts_with (byte "\n") rest.now || starts_with (byte "\r") rest.now) }
 {
     stands_at(rest, 0, b'\n') || stands_at(rest, 0, b'\r')
 }
@@ -108,7 +108,7 @@ fn is_line_break(rest: &[u8]) -> bool
 // One character, but no CR or LF.
 #[inline(always)]
 pub fn get_any_other_char(rest: &[u8]) -> Recognised
-    ensures { result ≡ getAnyOtherChar rest.now }
+    ensures { result ≡ get_any_other_char rest.now }
 {
     if is_line_break(rest) {
         return Recognised::Nothing;

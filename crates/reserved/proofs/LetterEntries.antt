@@ -6,24 +6,24 @@ use mathlib.Core.List.{List, [], ◌∷◌}
 use mathlib.Core.Path.{◌≡◌, refl}
 use Rattle.recognisers.specs.Text.{bytes}
 use Rattle.reserved.specs.Phrases.{each}
-use Rattle.reserved.specs.TopLevel.{creatable, alterableOrDroppable, eachDropped, topLevelPhrases}
-use Rattle.reserved.specs.NewlineAfter.{newlineAfterPhrases}
-use Rattle.reserved.specs.Newline.{newlinePhrases}
-use Rattle.reserved.specs.Join.{joinPhrases}
-use Rattle.reserved.specs.NoIndent.{noIndentPhrases}
-use Rattle.reserved.specs.Plain.{plainTwoPhrases, plainOnePhrases, plainA, plainB, plainC, plainD, plainE, plainF, plainG, plainH, plainI, plainK, plainL, plainM, plainN, plainO, plainP, plainQ, plainR, plainS, plainT, plainU, plainV, plainW, plainY}
-use Rattle.reserved.specs.Inner.Entries.{grouped, entries, entriesOf}
+use Rattle.reserved.specs.TopLevel.{creatable, alterable_or_droppable, each_dropped, top_level_phrases}
+use Rattle.reserved.specs.NewlineAfter.{newline_after_phrases}
+use Rattle.reserved.specs.Newline.{newline_phrases}
+use Rattle.reserved.specs.Join.{join_phrases}
+use Rattle.reserved.specs.NoIndent.{no_indent_phrases}
+use Rattle.reserved.specs.Plain.{plain_two_phrases, plain_one_phrases, plain_a, plain_b, plain_c, plain_d, plain_e, plain_f, plain_g, plain_h, plain_i, plain_k, plain_l, plain_m, plain_n, plain_o, plain_p, plain_q, plain_r, plain_s, plain_t, plain_u, plain_v, plain_w, plain_y}
+use Rattle.reserved.specs.Inner.Entries.{grouped, entries, entries_of}
 
-unfoldable pub entries-dollar : List (ℕ × List ℕ)
-entries-dollar =
+unfoldable pub entries_dollar : List (ℕ × List ℕ)
+entries_dollar =
     (73, bytes "$$") ∷ []
 
-pub is-dollar : entriesOf 36 entries ≡ entries-dollar
-unfolding entries-dollar entriesOf entries grouped topLevelPhrases creatable alterableOrDroppable each eachDropped newlineAfterPhrases newlinePhrases joinPhrases noIndentPhrases plainTwoPhrases plainOnePhrases plainA plainB plainC plainD plainE plainF plainG plainH plainI plainK plainL plainM plainN plainO plainP plainQ plainR plainS plainT plainU plainV plainW plainY
-is-dollar = refl
+pub is_dollar : entries_of 36 entries ≡ entries_dollar
+unfolding entries_dollar entries_of entries grouped top_level_phrases creatable alterable_or_droppable each each_dropped newline_after_phrases newline_phrases join_phrases no_indent_phrases plain_two_phrases plain_one_phrases plain_a plain_b plain_c plain_d plain_e plain_f plain_g plain_h plain_i plain_k plain_l plain_m plain_n plain_o plain_p plain_q plain_r plain_s plain_t plain_u plain_v plain_w plain_y
+is_dollar = refl
 
-unfoldable pub entries-a : List (ℕ × List ℕ)
-entries-a =
+unfoldable pub entries_a : List (ℕ × List ℕ)
+entries_a =
     (84, bytes "AFTER") ∷
     (84, bytes "ALTER AGGREGATE") ∷
     (84, bytes "ALTER FUNCTION") ∷
@@ -53,24 +53,24 @@ entries-a =
     (82, bytes "AUTOCOMMIT") ∷
     (82, bytes "AUTO_INCREMENT") ∷ []
 
-pub is-a : entriesOf 65 entries ≡ entries-a
-unfolding entries-a entriesOf entries grouped topLevelPhrases creatable alterableOrDroppable each eachDropped newlineAfterPhrases newlinePhrases joinPhrases noIndentPhrases plainTwoPhrases plainOnePhrases plainA plainB plainC plainD plainE plainF plainG plainH plainI plainK plainL plainM plainN plainO plainP plainQ plainR plainS plainT plainU plainV plainW plainY
-is-a = refl
+pub is_a : entries_of 65 entries ≡ entries_a
+unfolding entries_a entries_of entries grouped top_level_phrases creatable alterable_or_droppable each each_dropped newline_after_phrases newline_phrases join_phrases no_indent_phrases plain_two_phrases plain_one_phrases plain_a plain_b plain_c plain_d plain_e plain_f plain_g plain_h plain_i plain_k plain_l plain_m plain_n plain_o plain_p plain_q plain_r plain_s plain_t plain_u plain_v plain_w plain_y
+is_a = refl
 
-unfoldable pub entries-b : List (ℕ × List ℕ)
-entries-b =
+unfoldable pub entries_b : List (ℕ × List ℕ)
+entries_b =
     (73, bytes "BEGIN") ∷
     (82, bytes "BACKUP") ∷
     (82, bytes "BETWEEN") ∷
     (82, bytes "BINLOG") ∷
     (82, bytes "BOTH") ∷ []
 
-pub is-b : entriesOf 66 entries ≡ entries-b
-unfolding entries-b entriesOf entries grouped topLevelPhrases creatable alterableOrDroppable each eachDropped newlineAfterPhrases newlinePhrases joinPhrases noIndentPhrases plainTwoPhrases plainOnePhrases plainA plainB plainC plainD plainE plainF plainG plainH plainI plainK plainL plainM plainN plainO plainP plainQ plainR plainS plainT plainU plainV plainW plainY
-is-b = refl
+pub is_b : entries_of 66 entries ≡ entries_b
+unfolding entries_b entries_of entries grouped top_level_phrases creatable alterable_or_droppable each each_dropped newline_after_phrases newline_phrases join_phrases no_indent_phrases plain_two_phrases plain_one_phrases plain_a plain_b plain_c plain_d plain_e plain_f plain_g plain_h plain_i plain_k plain_l plain_m plain_n plain_o plain_p plain_q plain_r plain_s plain_t plain_u plain_v plain_w plain_y
+is_b = refl
 
-unfoldable pub entries-c : List (ℕ × List ℕ)
-entries-c =
+unfoldable pub entries_c : List (ℕ × List ℕ)
+entries_c =
     (84, bytes "CREATE OR REPLACE AGGREGATE") ∷
     (84, bytes "CREATE OR REPLACE FUNCTION") ∷
     (84, bytes "CREATE OR REPLACE LANGUAGE") ∷
@@ -121,12 +121,12 @@ entries-c =
     (82, bytes "CROSS") ∷
     (82, bytes "CURRENT_TIMESTAMP") ∷ []
 
-pub is-c : entriesOf 67 entries ≡ entries-c
-unfolding entries-c entriesOf entries grouped topLevelPhrases creatable alterableOrDroppable each eachDropped newlineAfterPhrases newlinePhrases joinPhrases noIndentPhrases plainTwoPhrases plainOnePhrases plainA plainB plainC plainD plainE plainF plainG plainH plainI plainK plainL plainM plainN plainO plainP plainQ plainR plainS plainT plainU plainV plainW plainY
-is-c = refl
+pub is_c : entries_of 67 entries ≡ entries_c
+unfolding entries_c entries_of entries grouped top_level_phrases creatable alterable_or_droppable each each_dropped newline_after_phrases newline_phrases join_phrases no_indent_phrases plain_two_phrases plain_one_phrases plain_a plain_b plain_c plain_d plain_e plain_f plain_g plain_h plain_i plain_k plain_l plain_m plain_n plain_o plain_p plain_q plain_r plain_s plain_t plain_u plain_v plain_w plain_y
+is_c = refl
 
-unfoldable pub entries-d : List (ℕ × List ℕ)
-entries-d =
+unfoldable pub entries_d : List (ℕ × List ℕ)
+entries_d =
     (84, bytes "DELETE FROM") ∷
     (68, bytes "DROP AGGREGATE") ∷
     (68, bytes "DROP FUNCTION") ∷
@@ -165,12 +165,12 @@ entries-d =
     (82, bytes "DUPLICATE") ∷
     (82, bytes "DYNAMIC") ∷ []
 
-pub is-d : entriesOf 68 entries ≡ entries-d
-unfolding entries-d entriesOf entries grouped topLevelPhrases creatable alterableOrDroppable each eachDropped newlineAfterPhrases newlinePhrases joinPhrases noIndentPhrases plainTwoPhrases plainOnePhrases plainA plainB plainC plainD plainE plainF plainG plainH plainI plainK plainL plainM plainN plainO plainP plainQ plainR plainS plainT plainU plainV plainW plainY
-is-d = refl
+pub is_d : entries_of 68 entries ≡ entries_d
+unfolding entries_d entries_of entries grouped top_level_phrases creatable alterable_or_droppable each each_dropped newline_after_phrases newline_phrases join_phrases no_indent_phrases plain_two_phrases plain_one_phrases plain_a plain_b plain_c plain_d plain_e plain_f plain_g plain_h plain_i plain_k plain_l plain_m plain_n plain_o plain_p plain_q plain_r plain_s plain_t plain_u plain_v plain_w plain_y
+is_d = refl
 
-unfoldable pub entries-e : List (ℕ × List ℕ)
-entries-e =
+unfoldable pub entries_e : List (ℕ × List ℕ)
+entries_e =
     (84, bytes "EXCEPT") ∷
     (78, bytes "ELSE") ∷
     (78, bytes "ENABLE") ∷
@@ -189,12 +189,12 @@ entries-e =
     (82, bytes "EXPLAIN") ∷
     (82, bytes "EXTENDED") ∷ []
 
-pub is-e : entriesOf 69 entries ≡ entries-e
-unfolding entries-e entriesOf entries grouped topLevelPhrases creatable alterableOrDroppable each eachDropped newlineAfterPhrases newlinePhrases joinPhrases noIndentPhrases plainTwoPhrases plainOnePhrases plainA plainB plainC plainD plainE plainF plainG plainH plainI plainK plainL plainM plainN plainO plainP plainQ plainR plainS plainT plainU plainV plainW plainY
-is-e = refl
+pub is_e : entries_of 69 entries ≡ entries_e
+unfolding entries_e entries_of entries grouped top_level_phrases creatable alterable_or_droppable each each_dropped newline_after_phrases newline_phrases join_phrases no_indent_phrases plain_two_phrases plain_one_phrases plain_a plain_b plain_c plain_d plain_e plain_f plain_g plain_h plain_i plain_k plain_l plain_m plain_n plain_o plain_p plain_q plain_r plain_s plain_t plain_u plain_v plain_w plain_y
+is_e = refl
 
-unfoldable pub entries-f : List (ℕ × List ℕ)
-entries-f =
+unfoldable pub entries_f : List (ℕ × List ℕ)
+entries_f =
     (84, bytes "FETCH FIRST") ∷
     (84, bytes "FROM") ∷
     (84, bytes "FOR UPDATE") ∷
@@ -217,12 +217,12 @@ entries-f =
     (82, bytes "FULLTEXT") ∷
     (82, bytes "FUNCTION") ∷ []
 
-pub is-f : entriesOf 70 entries ≡ entries-f
-unfolding entries-f entriesOf entries grouped topLevelPhrases creatable alterableOrDroppable each eachDropped newlineAfterPhrases newlinePhrases joinPhrases noIndentPhrases plainTwoPhrases plainOnePhrases plainA plainB plainC plainD plainE plainF plainG plainH plainI plainK plainL plainM plainN plainO plainP plainQ plainR plainS plainT plainU plainV plainW plainY
-is-f = refl
+pub is_f : entries_of 70 entries ≡ entries_f
+unfolding entries_f entries_of entries grouped top_level_phrases creatable alterable_or_droppable each each_dropped newline_after_phrases newline_phrases join_phrases no_indent_phrases plain_two_phrases plain_one_phrases plain_a plain_b plain_c plain_d plain_e plain_f plain_g plain_h plain_i plain_k plain_l plain_m plain_n plain_o plain_p plain_q plain_r plain_s plain_t plain_u plain_v plain_w plain_y
+is_f = refl
 
-unfoldable pub entries-g : List (ℕ × List ℕ)
-entries-g =
+unfoldable pub entries_g : List (ℕ × List ℕ)
+entries_g =
     (84, bytes "GROUP BY") ∷
     (84, bytes "GO") ∷
     (74, bytes "GLOBAL INNER JOIN") ∷
@@ -234,12 +234,12 @@ entries-g =
     (82, bytes "GRANTS") ∷
     (82, bytes "GROUP_CONCAT") ∷ []
 
-pub is-g : entriesOf 71 entries ≡ entries-g
-unfolding entries-g entriesOf entries grouped topLevelPhrases creatable alterableOrDroppable each eachDropped newlineAfterPhrases newlinePhrases joinPhrases noIndentPhrases plainTwoPhrases plainOnePhrases plainA plainB plainC plainD plainE plainF plainG plainH plainI plainK plainL plainM plainN plainO plainP plainQ plainR plainS plainT plainU plainV plainW plainY
-is-g = refl
+pub is_g : entries_of 71 entries ≡ entries_g
+unfolding entries_g entries_of entries grouped top_level_phrases creatable alterable_or_droppable each each_dropped newline_after_phrases newline_phrases join_phrases no_indent_phrases plain_two_phrases plain_one_phrases plain_a plain_b plain_c plain_d plain_e plain_f plain_g plain_h plain_i plain_k plain_l plain_m plain_n plain_o plain_p plain_q plain_r plain_s plain_t plain_u plain_v plain_w plain_y
+is_g = refl
 
-unfoldable pub entries-h : List (ℕ × List ℕ)
-entries-h =
+unfoldable pub entries_h : List (ℕ × List ℕ)
+entries_h =
     (84, bytes "HAVING") ∷
     (82, bytes "HEAP") ∷
     (82, bytes "HIGH_PRIORITY") ∷
@@ -248,12 +248,12 @@ entries-h =
     (82, bytes "HOUR_MINUTE") ∷
     (82, bytes "HOUR_SECOND") ∷ []
 
-pub is-h : entriesOf 72 entries ≡ entries-h
-unfolding entries-h entriesOf entries grouped topLevelPhrases creatable alterableOrDroppable each eachDropped newlineAfterPhrases newlinePhrases joinPhrases noIndentPhrases plainTwoPhrases plainOnePhrases plainA plainB plainC plainD plainE plainF plainG plainH plainI plainK plainL plainM plainN plainO plainP plainQ plainR plainS plainT plainU plainV plainW plainY
-is-h = refl
+pub is_h : entries_of 72 entries ≡ entries_h
+unfolding entries_h entries_of entries grouped top_level_phrases creatable alterable_or_droppable each each_dropped newline_after_phrases newline_phrases join_phrases no_indent_phrases plain_two_phrases plain_one_phrases plain_a plain_b plain_c plain_d plain_e plain_f plain_g plain_h plain_i plain_k plain_l plain_m plain_n plain_o plain_p plain_q plain_r plain_s plain_t plain_u plain_v plain_w plain_y
+is_h = refl
 
-unfoldable pub entries-i : List (ℕ × List ℕ)
-entries-i =
+unfoldable pub entries_i : List (ℕ × List ℕ)
+entries_i =
     (84, bytes "INSERT INTO") ∷
     (84, bytes "INSERT") ∷
     (74, bytes "INNER JOIN") ∷
@@ -277,30 +277,30 @@ entries-i =
     (82, bytes "IS") ∷
     (82, bytes "ISOLATION") ∷ []
 
-pub is-i : entriesOf 73 entries ≡ entries-i
-unfolding entries-i entriesOf entries grouped topLevelPhrases creatable alterableOrDroppable each eachDropped newlineAfterPhrases newlinePhrases joinPhrases noIndentPhrases plainTwoPhrases plainOnePhrases plainA plainB plainC plainD plainE plainF plainG plainH plainI plainK plainL plainM plainN plainO plainP plainQ plainR plainS plainT plainU plainV plainW plainY
-is-i = refl
+pub is_i : entries_of 73 entries ≡ entries_i
+unfolding entries_i entries_of entries grouped top_level_phrases creatable alterable_or_droppable each each_dropped newline_after_phrases newline_phrases join_phrases no_indent_phrases plain_two_phrases plain_one_phrases plain_a plain_b plain_c plain_d plain_e plain_f plain_g plain_h plain_i plain_k plain_l plain_m plain_n plain_o plain_p plain_q plain_r plain_s plain_t plain_u plain_v plain_w plain_y
+is_i = refl
 
-unfoldable pub entries-j : List (ℕ × List ℕ)
-entries-j =
+unfoldable pub entries_j : List (ℕ × List ℕ)
+entries_j =
     (74, bytes "JOIN") ∷ []
 
-pub is-j : entriesOf 74 entries ≡ entries-j
-unfolding entries-j entriesOf entries grouped topLevelPhrases creatable alterableOrDroppable each eachDropped newlineAfterPhrases newlinePhrases joinPhrases noIndentPhrases plainTwoPhrases plainOnePhrases plainA plainB plainC plainD plainE plainF plainG plainH plainI plainK plainL plainM plainN plainO plainP plainQ plainR plainS plainT plainU plainV plainW plainY
-is-j = refl
+pub is_j : entries_of 74 entries ≡ entries_j
+unfolding entries_j entries_of entries grouped top_level_phrases creatable alterable_or_droppable each each_dropped newline_after_phrases newline_phrases join_phrases no_indent_phrases plain_two_phrases plain_one_phrases plain_a plain_b plain_c plain_d plain_e plain_f plain_g plain_h plain_i plain_k plain_l plain_m plain_n plain_o plain_p plain_q plain_r plain_s plain_t plain_u plain_v plain_w plain_y
+is_j = refl
 
-unfoldable pub entries-k : List (ℕ × List ℕ)
-entries-k =
+unfoldable pub entries_k : List (ℕ × List ℕ)
+entries_k =
     (82, bytes "KEY") ∷
     (82, bytes "KEYS") ∷
     (82, bytes "KILL") ∷ []
 
-pub is-k : entriesOf 75 entries ≡ entries-k
-unfolding entries-k entriesOf entries grouped topLevelPhrases creatable alterableOrDroppable each eachDropped newlineAfterPhrases newlinePhrases joinPhrases noIndentPhrases plainTwoPhrases plainOnePhrases plainA plainB plainC plainD plainE plainF plainG plainH plainI plainK plainL plainM plainN plainO plainP plainQ plainR plainS plainT plainU plainV plainW plainY
-is-k = refl
+pub is_k : entries_of 75 entries ≡ entries_k
+unfolding entries_k entries_of entries grouped top_level_phrases creatable alterable_or_droppable each each_dropped newline_after_phrases newline_phrases join_phrases no_indent_phrases plain_two_phrases plain_one_phrases plain_a plain_b plain_c plain_d plain_e plain_f plain_g plain_h plain_i plain_k plain_l plain_m plain_n plain_o plain_p plain_q plain_r plain_s plain_t plain_u plain_v plain_w plain_y
+is_k = refl
 
-unfoldable pub entries-l : List (ℕ × List ℕ)
-entries-l =
+unfoldable pub entries_l : List (ℕ × List ℕ)
+entries_l =
     (84, bytes "LIMIT") ∷
     (74, bytes "LEFT JOIN") ∷
     (74, bytes "LEFT OUTER JOIN") ∷
@@ -321,12 +321,12 @@ entries-l =
     (82, bytes "LOGS") ∷
     (82, bytes "LOW_PRIORITY") ∷ []
 
-pub is-l : entriesOf 76 entries ≡ entries-l
-unfolding entries-l entriesOf entries grouped topLevelPhrases creatable alterableOrDroppable each eachDropped newlineAfterPhrases newlinePhrases joinPhrases noIndentPhrases plainTwoPhrases plainOnePhrases plainA plainB plainC plainD plainE plainF plainG plainH plainI plainK plainL plainM plainN plainO plainP plainQ plainR plainS plainT plainU plainV plainW plainY
-is-l = refl
+pub is_l : entries_of 76 entries ≡ entries_l
+unfolding entries_l entries_of entries grouped top_level_phrases creatable alterable_or_droppable each each_dropped newline_after_phrases newline_phrases join_phrases no_indent_phrases plain_two_phrases plain_one_phrases plain_a plain_b plain_c plain_d plain_e plain_f plain_g plain_h plain_i plain_k plain_l plain_m plain_n plain_o plain_p plain_q plain_r plain_s plain_t plain_u plain_v plain_w plain_y
+is_l = refl
 
-unfoldable pub entries-m : List (ℕ × List ℕ)
-entries-m =
+unfoldable pub entries_m : List (ℕ × List ℕ)
+entries_m =
     (84, bytes "MODIFY") ∷
     (84, bytes "MERGE INTO") ∷
     (73, bytes "MINUS") ∷
@@ -352,24 +352,24 @@ entries-m =
     (82, bytes "MRG_MYISAM") ∷
     (82, bytes "MYISAM") ∷ []
 
-pub is-m : entriesOf 77 entries ≡ entries-m
-unfolding entries-m entriesOf entries grouped topLevelPhrases creatable alterableOrDroppable each eachDropped newlineAfterPhrases newlinePhrases joinPhrases noIndentPhrases plainTwoPhrases plainOnePhrases plainA plainB plainC plainD plainE plainF plainG plainH plainI plainK plainL plainM plainN plainO plainP plainQ plainR plainS plainT plainU plainV plainW plainY
-is-m = refl
+pub is_m : entries_of 77 entries ≡ entries_m
+unfolding entries_m entries_of entries grouped top_level_phrases creatable alterable_or_droppable each each_dropped newline_after_phrases newline_phrases join_phrases no_indent_phrases plain_two_phrases plain_one_phrases plain_a plain_b plain_c plain_d plain_e plain_f plain_g plain_h plain_i plain_k plain_l plain_m plain_n plain_o plain_p plain_q plain_r plain_s plain_t plain_u plain_v plain_w plain_y
+is_m = refl
 
-unfoldable pub entries-n : List (ℕ × List ℕ)
-entries-n =
+unfoldable pub entries_n : List (ℕ × List ℕ)
+entries_n =
     (82, bytes "NAMES") ∷
     (82, bytes "NATURAL") ∷
     (82, bytes "NOT") ∷
     (82, bytes "NOW()") ∷
     (82, bytes "NULL") ∷ []
 
-pub is-n : entriesOf 78 entries ≡ entries-n
-unfolding entries-n entriesOf entries grouped topLevelPhrases creatable alterableOrDroppable each eachDropped newlineAfterPhrases newlinePhrases joinPhrases noIndentPhrases plainTwoPhrases plainOnePhrases plainA plainB plainC plainD plainE plainF plainG plainH plainI plainK plainL plainM plainN plainO plainP plainQ plainR plainS plainT plainU plainV plainW plainY
-is-n = refl
+pub is_n : entries_of 78 entries ≡ entries_n
+unfolding entries_n entries_of entries grouped top_level_phrases creatable alterable_or_droppable each each_dropped newline_after_phrases newline_phrases join_phrases no_indent_phrases plain_two_phrases plain_one_phrases plain_a plain_b plain_c plain_d plain_e plain_f plain_g plain_h plain_i plain_k plain_l plain_m plain_n plain_o plain_p plain_q plain_r plain_s plain_t plain_u plain_v plain_w plain_y
+is_n = refl
 
-unfoldable pub entries-o : List (ℕ × List ℕ)
-entries-o =
+unfoldable pub entries_o : List (ℕ × List ℕ)
+entries_o =
     (84, bytes "ORDER BY") ∷
     (84, bytes "ON CONFLICT") ∷
     (78, bytes "OUTER APPLY") ∷
@@ -387,12 +387,12 @@ entries-o =
     (82, bytes "OPTIONALLY") ∷
     (82, bytes "OUTFILE") ∷ []
 
-pub is-o : entriesOf 79 entries ≡ entries-o
-unfolding entries-o entriesOf entries grouped topLevelPhrases creatable alterableOrDroppable each eachDropped newlineAfterPhrases newlinePhrases joinPhrases noIndentPhrases plainTwoPhrases plainOnePhrases plainA plainB plainC plainD plainE plainF plainG plainH plainI plainK plainL plainM plainN plainO plainP plainQ plainR plainS plainT plainU plainV plainW plainY
-is-o = refl
+pub is_o : entries_of 79 entries ≡ entries_o
+unfolding entries_o entries_of entries grouped top_level_phrases creatable alterable_or_droppable each each_dropped newline_after_phrases newline_phrases join_phrases no_indent_phrases plain_two_phrases plain_one_phrases plain_a plain_b plain_c plain_d plain_e plain_f plain_g plain_h plain_i plain_k plain_l plain_m plain_n plain_o plain_p plain_q plain_r plain_s plain_t plain_u plain_v plain_w plain_y
+is_o = refl
 
-unfoldable pub entries-p : List (ℕ × List ℕ)
-entries-p =
+unfoldable pub entries_p : List (ℕ × List ℕ)
+entries_p =
     (84, bytes "PARTITION BY") ∷
     (74, bytes "PASTE JOIN") ∷
     (82, bytes "PARTITIONED BY") ∷
@@ -409,20 +409,20 @@ entries-p =
     (82, bytes "PROCESSLIST") ∷
     (82, bytes "PURGE") ∷ []
 
-pub is-p : entriesOf 80 entries ≡ entries-p
-unfolding entries-p entriesOf entries grouped topLevelPhrases creatable alterableOrDroppable each eachDropped newlineAfterPhrases newlinePhrases joinPhrases noIndentPhrases plainTwoPhrases plainOnePhrases plainA plainB plainC plainD plainE plainF plainG plainH plainI plainK plainL plainM plainN plainO plainP plainQ plainR plainS plainT plainU plainV plainW plainY
-is-p = refl
+pub is_p : entries_of 80 entries ≡ entries_p
+unfolding entries_p entries_of entries grouped top_level_phrases creatable alterable_or_droppable each each_dropped newline_after_phrases newline_phrases join_phrases no_indent_phrases plain_two_phrases plain_one_phrases plain_a plain_b plain_c plain_d plain_e plain_f plain_g plain_h plain_i plain_k plain_l plain_m plain_n plain_o plain_p plain_q plain_r plain_s plain_t plain_u plain_v plain_w plain_y
+is_p = refl
 
-unfoldable pub entries-q : List (ℕ × List ℕ)
-entries-q =
+unfoldable pub entries_q : List (ℕ × List ℕ)
+entries_q =
     (82, bytes "QUICK") ∷ []
 
-pub is-q : entriesOf 81 entries ≡ entries-q
-unfolding entries-q entriesOf entries grouped topLevelPhrases creatable alterableOrDroppable each eachDropped newlineAfterPhrases newlinePhrases joinPhrases noIndentPhrases plainTwoPhrases plainOnePhrases plainA plainB plainC plainD plainE plainF plainG plainH plainI plainK plainL plainM plainN plainO plainP plainQ plainR plainS plainT plainU plainV plainW plainY
-is-q = refl
+pub is_q : entries_of 81 entries ≡ entries_q
+unfolding entries_q entries_of entries grouped top_level_phrases creatable alterable_or_droppable each each_dropped newline_after_phrases newline_phrases join_phrases no_indent_phrases plain_two_phrases plain_one_phrases plain_a plain_b plain_c plain_d plain_e plain_f plain_g plain_h plain_i plain_k plain_l plain_m plain_n plain_o plain_p plain_q plain_r plain_s plain_t plain_u plain_v plain_w plain_y
+is_q = refl
 
-unfoldable pub entries-r : List (ℕ × List ℕ)
-entries-r =
+unfoldable pub entries_r : List (ℕ × List ℕ)
+entries_r =
     (84, bytes "RETURNING") ∷
     (74, bytes "RIGHT JOIN") ∷
     (74, bytes "RIGHT OUTER JOIN") ∷
@@ -457,12 +457,12 @@ entries-r =
     (82, bytes "ROWS") ∷
     (82, bytes "ROW_FORMAT") ∷ []
 
-pub is-r : entriesOf 82 entries ≡ entries-r
-unfolding entries-r entriesOf entries grouped topLevelPhrases creatable alterableOrDroppable each eachDropped newlineAfterPhrases newlinePhrases joinPhrases noIndentPhrases plainTwoPhrases plainOnePhrases plainA plainB plainC plainD plainE plainF plainG plainH plainI plainK plainL plainM plainN plainO plainP plainQ plainR plainS plainT plainU plainV plainW plainY
-is-r = refl
+pub is_r : entries_of 82 entries ≡ entries_r
+unfolding entries_r entries_of entries grouped top_level_phrases creatable alterable_or_droppable each each_dropped newline_after_phrases newline_phrases join_phrases no_indent_phrases plain_two_phrases plain_one_phrases plain_a plain_b plain_c plain_d plain_e plain_f plain_g plain_h plain_i plain_k plain_l plain_m plain_n plain_o plain_p plain_q plain_r plain_s plain_t plain_u plain_v plain_w plain_y
+is_r = refl
 
-unfoldable pub entries-s : List (ℕ × List ℕ)
-entries-s =
+unfoldable pub entries_s : List (ℕ × List ℕ)
+entries_s =
     (84, bytes "SELECT DISTINCT") ∷
     (84, bytes "SELECT ALL") ∷
     (84, bytes "SELECT") ∷
@@ -511,12 +511,12 @@ entries-s =
     (82, bytes "STRIPED") ∷
     (82, bytes "SUPER") ∷ []
 
-pub is-s : entriesOf 83 entries ≡ entries-s
-unfolding entries-s entriesOf entries grouped topLevelPhrases creatable alterableOrDroppable each eachDropped newlineAfterPhrases newlinePhrases joinPhrases noIndentPhrases plainTwoPhrases plainOnePhrases plainA plainB plainC plainD plainE plainF plainG plainH plainI plainK plainL plainM plainN plainO plainP plainQ plainR plainS plainT plainU plainV plainW plainY
-is-s = refl
+pub is_s : entries_of 83 entries ≡ entries_s
+unfolding entries_s entries_of entries grouped top_level_phrases creatable alterable_or_droppable each each_dropped newline_after_phrases newline_phrases join_phrases no_indent_phrases plain_two_phrases plain_one_phrases plain_a plain_b plain_c plain_d plain_e plain_f plain_g plain_h plain_i plain_k plain_l plain_m plain_n plain_o plain_p plain_q plain_r plain_s plain_t plain_u plain_v plain_w plain_y
+is_s = refl
 
-unfoldable pub entries-t : List (ℕ × List ℕ)
-entries-t =
+unfoldable pub entries_t : List (ℕ × List ℕ)
+entries_t =
     (82, bytes "TABLE") ∷
     (82, bytes "TABLES") ∷
     (82, bytes "TEMPORARY") ∷
@@ -531,12 +531,12 @@ entries-t =
     (82, bytes "TYPES") ∷
     (82, bytes "TBLPROPERTIES") ∷ []
 
-pub is-t : entriesOf 84 entries ≡ entries-t
-unfolding entries-t entriesOf entries grouped topLevelPhrases creatable alterableOrDroppable each eachDropped newlineAfterPhrases newlinePhrases joinPhrases noIndentPhrases plainTwoPhrases plainOnePhrases plainA plainB plainC plainD plainE plainF plainG plainH plainI plainK plainL plainM plainN plainO plainP plainQ plainR plainS plainT plainU plainV plainW plainY
-is-t = refl
+pub is_t : entries_of 84 entries ≡ entries_t
+unfolding entries_t entries_of entries grouped top_level_phrases creatable alterable_or_droppable each each_dropped newline_after_phrases newline_phrases join_phrases no_indent_phrases plain_two_phrases plain_one_phrases plain_a plain_b plain_c plain_d plain_e plain_f plain_g plain_h plain_i plain_k plain_l plain_m plain_n plain_o plain_p plain_q plain_r plain_s plain_t plain_u plain_v plain_w plain_y
+is_t = refl
 
-unfoldable pub entries-u : List (ℕ × List ℕ)
-entries-u =
+unfoldable pub entries_u : List (ℕ × List ℕ)
+entries_u =
     (84, bytes "UPDATE") ∷
     (84, bytes "USING") ∷
     (73, bytes "UNION ALL") ∷
@@ -548,23 +548,23 @@ entries-u =
     (82, bytes "USAGE") ∷
     (82, bytes "USE") ∷ []
 
-pub is-u : entriesOf 85 entries ≡ entries-u
-unfolding entries-u entriesOf entries grouped topLevelPhrases creatable alterableOrDroppable each eachDropped newlineAfterPhrases newlinePhrases joinPhrases noIndentPhrases plainTwoPhrases plainOnePhrases plainA plainB plainC plainD plainE plainF plainG plainH plainI plainK plainL plainM plainN plainO plainP plainQ plainR plainS plainT plainU plainV plainW plainY
-is-u = refl
+pub is_u : entries_of 85 entries ≡ entries_u
+unfolding entries_u entries_of entries grouped top_level_phrases creatable alterable_or_droppable each each_dropped newline_after_phrases newline_phrases join_phrases no_indent_phrases plain_two_phrases plain_one_phrases plain_a plain_b plain_c plain_d plain_e plain_f plain_g plain_h plain_i plain_k plain_l plain_m plain_n plain_o plain_p plain_q plain_r plain_s plain_t plain_u plain_v plain_w plain_y
+is_u = refl
 
-unfoldable pub entries-v : List (ℕ × List ℕ)
-entries-v =
+unfoldable pub entries_v : List (ℕ × List ℕ)
+entries_v =
     (84, bytes "VALUES") ∷
     (78, bytes "VALIDATE") ∷
     (82, bytes "VARIABLES") ∷
     (82, bytes "VIEW") ∷ []
 
-pub is-v : entriesOf 86 entries ≡ entries-v
-unfolding entries-v entriesOf entries grouped topLevelPhrases creatable alterableOrDroppable each eachDropped newlineAfterPhrases newlinePhrases joinPhrases noIndentPhrases plainTwoPhrases plainOnePhrases plainA plainB plainC plainD plainE plainF plainG plainH plainI plainK plainL plainM plainN plainO plainP plainQ plainR plainS plainT plainU plainV plainW plainY
-is-v = refl
+pub is_v : entries_of 86 entries ≡ entries_v
+unfolding entries_v entries_of entries grouped top_level_phrases creatable alterable_or_droppable each each_dropped newline_after_phrases newline_phrases join_phrases no_indent_phrases plain_two_phrases plain_one_phrases plain_a plain_b plain_c plain_d plain_e plain_f plain_g plain_h plain_i plain_k plain_l plain_m plain_n plain_o plain_p plain_q plain_r plain_s plain_t plain_u plain_v plain_w plain_y
+is_v = refl
 
-unfoldable pub entries-w : List (ℕ × List ℕ)
-entries-w =
+unfoldable pub entries_w : List (ℕ × List ℕ)
+entries_w =
     (84, bytes "WHERE") ∷
     (84, bytes "WINDOW") ∷
     (78, bytes "WHEN") ∷
@@ -573,22 +573,22 @@ entries-w =
     (82, bytes "WORK") ∷
     (82, bytes "WRITE") ∷ []
 
-pub is-w : entriesOf 87 entries ≡ entries-w
-unfolding entries-w entriesOf entries grouped topLevelPhrases creatable alterableOrDroppable each eachDropped newlineAfterPhrases newlinePhrases joinPhrases noIndentPhrases plainTwoPhrases plainOnePhrases plainA plainB plainC plainD plainE plainF plainG plainH plainI plainK plainL plainM plainN plainO plainP plainQ plainR plainS plainT plainU plainV plainW plainY
-is-w = refl
+pub is_w : entries_of 87 entries ≡ entries_w
+unfolding entries_w entries_of entries grouped top_level_phrases creatable alterable_or_droppable each each_dropped newline_after_phrases newline_phrases join_phrases no_indent_phrases plain_two_phrases plain_one_phrases plain_a plain_b plain_c plain_d plain_e plain_f plain_g plain_h plain_i plain_k plain_l plain_m plain_n plain_o plain_p plain_q plain_r plain_s plain_t plain_u plain_v plain_w plain_y
+is_w = refl
 
-unfoldable pub entries-x : List (ℕ × List ℕ)
-entries-x =
+unfoldable pub entries_x : List (ℕ × List ℕ)
+entries_x =
     (78, bytes "XOR") ∷ []
 
-pub is-x : entriesOf 88 entries ≡ entries-x
-unfolding entries-x entriesOf entries grouped topLevelPhrases creatable alterableOrDroppable each eachDropped newlineAfterPhrases newlinePhrases joinPhrases noIndentPhrases plainTwoPhrases plainOnePhrases plainA plainB plainC plainD plainE plainF plainG plainH plainI plainK plainL plainM plainN plainO plainP plainQ plainR plainS plainT plainU plainV plainW plainY
-is-x = refl
+pub is_x : entries_of 88 entries ≡ entries_x
+unfolding entries_x entries_of entries grouped top_level_phrases creatable alterable_or_droppable each each_dropped newline_after_phrases newline_phrases join_phrases no_indent_phrases plain_two_phrases plain_one_phrases plain_a plain_b plain_c plain_d plain_e plain_f plain_g plain_h plain_i plain_k plain_l plain_m plain_n plain_o plain_p plain_q plain_r plain_s plain_t plain_u plain_v plain_w plain_y
+is_x = refl
 
-unfoldable pub entries-y : List (ℕ × List ℕ)
-entries-y =
+unfoldable pub entries_y : List (ℕ × List ℕ)
+entries_y =
     (82, bytes "YEAR_MONTH") ∷ []
 
-pub is-y : entriesOf 89 entries ≡ entries-y
-unfolding entries-y entriesOf entries grouped topLevelPhrases creatable alterableOrDroppable each eachDropped newlineAfterPhrases newlinePhrases joinPhrases noIndentPhrases plainTwoPhrases plainOnePhrases plainA plainB plainC plainD plainE plainF plainG plainH plainI plainK plainL plainM plainN plainO plainP plainQ plainR plainS plainT plainU plainV plainW plainY
-is-y = refl
+pub is_y : entries_of 89 entries ≡ entries_y
+unfolding entries_y entries_of entries grouped top_level_phrases creatable alterable_or_droppable each each_dropped newline_after_phrases newline_phrases join_phrases no_indent_phrases plain_two_phrases plain_one_phrases plain_a plain_b plain_c plain_d plain_e plain_f plain_g plain_h plain_i plain_k plain_l plain_m plain_n plain_o plain_p plain_q plain_r plain_s plain_t plain_u plain_v plain_w plain_y
+is_y = refl

@@ -7,113 +7,113 @@ use mathlib.Core.Bool.{Bool, true, false, cond, not, ◌&&◌, ◌||◌, and-eq-
 use lib.ListN.{drop}
 use lib.Dec.{ltb, eqb}
 use borrow.Author.Tests.{ltb-true}
-use Rattle.characters.specs.Utf8.{wellFormed}
+use Rattle.characters.specs.Utf8.{well_formed}
 use Rattle.recognisers.specs.declared.Taken.{Taken}
 use Rattle.recognisers.specs.declared.Taken.TheVariants.{Bytes, Fails}
 use Rattle.recognisers.specs.declared.TokenKind.TheVariants as K
 use Rattle.recognisers.specs.declared.Recognised.{Recognised}
 use Rattle.recognisers.specs.declared.Recognised.TheVariants.{Nothing}
 use Rattle.recognisers.specs.Text.{bytes}
-use Rattle.recognisers.specs.Taking.{Taker, done, one, capital, blanks, endOfWord}
-use Rattle.recognisers.specs.Pieces.{tokenOf}
+use Rattle.recognisers.specs.Taking.{Taker, done, one, capital, blanks, end_of_word}
+use Rattle.recognisers.specs.Pieces.{token_of}
 use Rattle.reserved.specs.declared.TopLevel.{TopLevel}
-use Rattle.reserved.specs.Phrases.{walk, after, optional, Phrase, phrase, phraseIfExists, phraseEnd, firstPhrase, each}
-use Rattle.reserved.specs.TopLevel.{topLevelPhrases, creatable, alterableOrDroppable, eachDropped}
-use Rattle.reserved.specs.NewlineAfter.{newlineAfterPhrases}
-use Rattle.reserved.specs.Newline.{newlinePhrases}
-use Rattle.reserved.specs.Join.{joinPhrases}
-use Rattle.reserved.specs.NoIndent.{noIndentPhrases}
-use Rattle.reserved.specs.Plain.{plainTwoPhrases, plainOnePhrases, plainA, plainB, plainC, plainD, plainE, plainF, plainG, plainH, plainI, plainK, plainL, plainM, plainN, plainO, plainP, plainQ, plainR, plainS, plainT, plainU, plainV, plainW, plainY}
-use Rattle.reserved.specs.Reserved.{topLevelToken, newlineToken, getTopLevelReservedToken, getNewlineAfterReservedToken, getNewlineReservedToken, getJoinToken, getTopLevelReservedTokenNoIndent, getPlainReservedToken, mayBeReserved, getReservedWordToken}
-use Rattle.recognisers.proofs.PieceBoundaries.{Leaves, Cuts, or-leaves, more-leaves, fails-leaves, one-cuts, capital-keeps, allAscii, done-cuts, end-of-word-cuts, blanks-cuts, Bounded, alt-bounded, token-bounded}
-use Rattle.reserved.proofs.PhraseWalk.{wordsOf}
+use Rattle.reserved.specs.Phrases.{walk, after, optional, Phrase, phrase, phrase_if_exists, phrase_end, first_phrase, each}
+use Rattle.reserved.specs.TopLevel.{top_level_phrases, creatable, alterable_or_droppable, each_dropped}
+use Rattle.reserved.specs.NewlineAfter.{newline_after_phrases}
+use Rattle.reserved.specs.Newline.{newline_phrases}
+use Rattle.reserved.specs.Join.{join_phrases}
+use Rattle.reserved.specs.NoIndent.{no_indent_phrases}
+use Rattle.reserved.specs.Plain.{plain_two_phrases, plain_one_phrases, plain_a, plain_b, plain_c, plain_d, plain_e, plain_f, plain_g, plain_h, plain_i, plain_k, plain_l, plain_m, plain_n, plain_o, plain_p, plain_q, plain_r, plain_s, plain_t, plain_u, plain_v, plain_w, plain_y}
+use Rattle.reserved.specs.Reserved.{top_level_token, newline_token, get_top_level_reserved_token, get_newline_after_reserved_token, get_newline_reserved_token, get_join_token, get_top_level_reserved_token_no_indent, get_plain_reserved_token, may_be_reserved, get_reserved_word_token}
+use Rattle.recognisers.proofs.PieceBoundaries.{Leaves, Cuts, or_leaves, more_leaves, fails_leaves, one_cuts, capital_keeps, all_ascii, done_cuts, end_of_word_cuts, blanks_cuts, Bounded, alt_bounded, token_bounded}
+use Rattle.reserved.proofs.PhraseWalk.{words_of}
 
-walk-cuts : (words : List ℕ) → allAscii words ≡ true → (then : Taker) → Cuts then → Cuts (walk words then)
+walk_cuts : (words : List ℕ) → all_ascii words ≡ true → (then : Taker) → Cuts then → Cuts (walk words then)
 unfolding walk
-walk-cuts [] a then h s w = h s w
-walk-cuts (p ∷ words) a then h s w =
-    let b = (and-eq-true_iff (ltb p 0x80) (allAscii words)).0 a in
-    go (eqb p 32) b.0 (walk-cuts words b.1 then h)
+walk_cuts [] a then h s w = h s w
+walk_cuts (p ∷ words) a then h s w =
+    let b = (and-eq-true_iff (ltb p 0x80) (all_ascii words)).0 a in
+    go (eqb p 32) b.0 (walk_cuts words b.1 then h)
   where
     go : (t : Bool) → ltb p 0x80 ≡ true → Cuts (walk words then) → Leaves s (cond t (blanks (walk words then) s) (one (λ b. eqb (capital b) p) (walk words then) s))
-    go true l rest = blanks-cuts (walk words then) rest s w
-    go false l rest = one-cuts (λ b. eqb (capital b) p) (λ c e. capital-keeps c p (ltb-true p 0x80 l) e) (walk words then) rest s w
+    go true l rest = blanks_cuts (walk words then) rest s w
+    go false l rest = one_cuts (λ b. eqb (capital b) p) (λ c e. capital_keeps c p (ltb-true p 0x80 l) e) (walk words then) rest s w
 
-optional-cuts : (words : List ℕ) → allAscii words ≡ true → (then : Taker) → Cuts then → Cuts (optional words then)
+optional_cuts : (words : List ℕ) → all_ascii words ≡ true → (then : Taker) → Cuts then → Cuts (optional words then)
 unfolding optional
-optional-cuts words a then h s w = go (walk words done s) (walk-cuts words a done done-cuts s w)
+optional_cuts words a then h s w = go (walk words done s) (walk_cuts words a done done_cuts s w)
   where
     go : (t : Taken) → Leaves s t → Leaves s (after t then s)
-    go (Bytes n) l = more-leaves n s (then (drop n s)) (h (drop n s) l.left)
+    go (Bytes n) l = more_leaves n s (then (drop n s)) (h (drop n s) l.left)
     go Fails l = h s w
 
-abbrev allWordsAscii : List Phrase → Bool
-allWordsAscii [] = true
-allWordsAscii (p ∷ phrases) = allAscii (wordsOf p) && allWordsAscii phrases
+abbrev all_words_ascii : List Phrase → Bool
+all_words_ascii [] = true
+all_words_ascii (p ∷ phrases) = all_ascii (words_of p) && all_words_ascii phrases
 
-phrase-cuts : (p : Phrase) → allAscii (wordsOf p) ≡ true → Cuts (phraseEnd p)
-unfolding phraseEnd
-phrase-cuts (phrase words) a s w = walk-cuts words a endOfWord end-of-word-cuts s w
-phrase-cuts (phraseIfExists words) a s w =
-    walk-cuts words a (optional (bytes " IF EXISTS") endOfWord) (optional-cuts (bytes " IF EXISTS") refl endOfWord end-of-word-cuts) s w
+phrase_cuts : (p : Phrase) → all_ascii (words_of p) ≡ true → Cuts (phrase_end p)
+unfolding phrase_end
+phrase_cuts (phrase words) a s w = walk_cuts words a end_of_word end_of_word_cuts s w
+phrase_cuts (phrase_if_exists words) a s w =
+    walk_cuts words a (optional (bytes " IF EXISTS") end_of_word) (optional_cuts (bytes " IF EXISTS") refl end_of_word end_of_word_cuts) s w
 
-first-cuts : (phrases : List Phrase) → allWordsAscii phrases ≡ true → Cuts (firstPhrase phrases)
-unfolding firstPhrase
-first-cuts [] a s w = fails-leaves s
-first-cuts (p ∷ phrases) a s w =
-    let b = (and-eq-true_iff (allAscii (wordsOf p)) (allWordsAscii phrases)).0 a in
-    or-leaves s (phraseEnd p s) (firstPhrase phrases s) (phrase-cuts p b.0 s w) (first-cuts phrases b.1 s w)
+first_cuts : (phrases : List Phrase) → all_words_ascii phrases ≡ true → Cuts (first_phrase phrases)
+unfolding first_phrase
+first_cuts [] a s w = fails_leaves s
+first_cuts (p ∷ phrases) a s w =
+    let b = (and-eq-true_iff (all_ascii (words_of p)) (all_words_ascii phrases)).0 a in
+    or_leaves s (phrase_end p s) (first_phrase phrases s) (phrase_cuts p b.0 s w) (first_cuts phrases b.1 s w)
 
 -- one test for each group, which the checker computes over its table
 
-top-plain : allWordsAscii topLevelPhrases ≡ true
-unfolding topLevelPhrases creatable alterableOrDroppable eachDropped each
-top-plain = refl
+top_plain : all_words_ascii top_level_phrases ≡ true
+unfolding top_level_phrases creatable alterable_or_droppable each_dropped each
+top_plain = refl
 
-after-plain : allWordsAscii newlineAfterPhrases ≡ true
-unfolding newlineAfterPhrases
-after-plain = refl
+after_plain : all_words_ascii newline_after_phrases ≡ true
+unfolding newline_after_phrases
+after_plain = refl
 
-newline-plain : allWordsAscii newlinePhrases ≡ true
-unfolding newlinePhrases
-newline-plain = refl
+newline_plain : all_words_ascii newline_phrases ≡ true
+unfolding newline_phrases
+newline_plain = refl
 
-join-plain : allWordsAscii joinPhrases ≡ true
-unfolding joinPhrases
-join-plain = refl
+join_plain : all_words_ascii join_phrases ≡ true
+unfolding join_phrases
+join_plain = refl
 
-no-indent-plain : allWordsAscii noIndentPhrases ≡ true
-unfolding noIndentPhrases
-no-indent-plain = refl
+no_indent_plain : all_words_ascii no_indent_phrases ≡ true
+unfolding no_indent_phrases
+no_indent_plain = refl
 
-two-plain : allWordsAscii plainTwoPhrases ≡ true
-unfolding plainTwoPhrases
-two-plain = refl
+two_plain : all_words_ascii plain_two_phrases ≡ true
+unfolding plain_two_phrases
+two_plain = refl
 
-one-plain : allWordsAscii plainOnePhrases ≡ true
-unfolding plainOnePhrases plainA plainB plainC plainD plainE plainF plainG plainH plainI plainK plainL plainM plainN plainO plainP plainQ plainR plainS plainT plainU plainV plainW plainY
-one-plain = refl
+one_plain : all_words_ascii plain_one_phrases ≡ true
+unfolding plain_one_phrases plain_a plain_b plain_c plain_d plain_e plain_f plain_g plain_h plain_i plain_k plain_l plain_m plain_n plain_o plain_p plain_q plain_r plain_s plain_t plain_u plain_v plain_w plain_y
+one_plain = refl
 
-module _ (s : List ℕ) (w : wellFormed s ≡ true) where
-  top-level-bounded : (last : TopLevel) (t : Taken) → Leaves s t → Bounded s (topLevelToken last s t)
-  top-level-bounded last (Bytes n) h = h.left
-  top-level-bounded last Fails h = tt
+module _ (s : List ℕ) (w : well_formed s ≡ true) where
+  top_level_bounded : (last : TopLevel) (t : Taken) → Leaves s t → Bounded s (top_level_token last s t)
+  top_level_bounded last (Bytes n) h = h.left
+  top_level_bounded last Fails h = tt
 
-  newline-bounded : (between : Bool) (t : Taken) → Leaves s t → Bounded s (newlineToken between s t)
-  newline-bounded between (Bytes n) h = h.left
-  newline-bounded between Fails h = tt
+  newline_bounded : (between : Bool) (t : Taken) → Leaves s t → Bounded s (newline_token between s t)
+  newline_bounded between (Bytes n) h = h.left
+  newline_bounded between Fails h = tt
 
-  pub reserved-bounded : (dot between : Bool) (last : TopLevel) → Bounded s (getReservedWordToken dot between last s)
-  unfolding getReservedWordToken getTopLevelReservedToken getNewlineAfterReservedToken getNewlineReservedToken getJoinToken getTopLevelReservedTokenNoIndent getPlainReservedToken
-  reserved-bounded dot between last =
-      go (dot || not (mayBeReserved s)) _
-      (alt-bounded s (topLevelToken last s (firstPhrase topLevelPhrases s)) _ (top-level-bounded last _ (first-cuts topLevelPhrases top-plain s w))
-      (alt-bounded s (tokenOf K.ReservedNewlineAfter (firstPhrase newlineAfterPhrases s)) _ (token-bounded s K.ReservedNewlineAfter _ (first-cuts newlineAfterPhrases after-plain s w))
-      (alt-bounded s (newlineToken between s (firstPhrase newlinePhrases s)) _ (newline-bounded between _ (first-cuts newlinePhrases newline-plain s w))
-      (alt-bounded s (tokenOf K.Join (firstPhrase joinPhrases s)) _ (token-bounded s K.Join _ (first-cuts joinPhrases join-plain s w))
-      (alt-bounded s (tokenOf K.ReservedTopLevelNoIndent (firstPhrase noIndentPhrases s)) _ (token-bounded s K.ReservedTopLevelNoIndent _ (first-cuts noIndentPhrases no-indent-plain s w))
-      (alt-bounded s (tokenOf K.Reserved (firstPhrase plainTwoPhrases s)) _ (token-bounded s K.Reserved _ (first-cuts plainTwoPhrases two-plain s w))
-      (token-bounded s K.Reserved _ (first-cuts plainOnePhrases one-plain s w))))))))
+  pub reserved_bounded : (dot between : Bool) (last : TopLevel) → Bounded s (get_reserved_word_token dot between last s)
+  unfolding get_reserved_word_token get_top_level_reserved_token get_newline_after_reserved_token get_newline_reserved_token get_join_token get_top_level_reserved_token_no_indent get_plain_reserved_token
+  reserved_bounded dot between last =
+      go (dot || not (may_be_reserved s)) _
+      (alt_bounded s (top_level_token last s (first_phrase top_level_phrases s)) _ (top_level_bounded last _ (first_cuts top_level_phrases top_plain s w))
+      (alt_bounded s (token_of K.ReservedNewlineAfter (first_phrase newline_after_phrases s)) _ (token_bounded s K.ReservedNewlineAfter _ (first_cuts newline_after_phrases after_plain s w))
+      (alt_bounded s (newline_token between s (first_phrase newline_phrases s)) _ (newline_bounded between _ (first_cuts newline_phrases newline_plain s w))
+      (alt_bounded s (token_of K.Join (first_phrase join_phrases s)) _ (token_bounded s K.Join _ (first_cuts join_phrases join_plain s w))
+      (alt_bounded s (token_of K.ReservedTopLevelNoIndent (first_phrase no_indent_phrases s)) _ (token_bounded s K.ReservedTopLevelNoIndent _ (first_cuts no_indent_phrases no_indent_plain s w))
+      (alt_bounded s (token_of K.Reserved (first_phrase plain_two_phrases s)) _ (token_bounded s K.Reserved _ (first_cuts plain_two_phrases two_plain s w))
+      (token_bounded s K.Reserved _ (first_cuts plain_one_phrases one_plain s w))))))))
     where
       go : (t : Bool) (r : Recognised) → Bounded s r → Bounded s (cond t Nothing r)
       go true r h = tt

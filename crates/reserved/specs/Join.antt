@@ -4,8 +4,8 @@ use Rattle.recognisers.specs.Text.{bytes}
 use Rattle.reserved.specs.Phrases.{Phrase, phrase}
 
 -- the standard joins, the warehouses’ own, then ASOF, PASTE and the GLOBAL ones
-unfoldable pub joinPhrases : List Phrase
-joinPhrases =
+unfoldable pub join_phrases : List Phrase
+join_phrases =
     phrase (bytes "JOIN")
     ∷ phrase (bytes "INNER JOIN")
     ∷ phrase (bytes "LEFT JOIN")

@@ -4,8 +4,8 @@ use Rattle.recognisers.specs.Text.{bytes}
 use Rattle.reserved.specs.Phrases.{Phrase, phrase}
 
 -- in the order of the Rust
-unfoldable pub newlinePhrases : List Phrase
-newlinePhrases =
+unfoldable pub newline_phrases : List Phrase
+newline_phrases =
     phrase (bytes "CROSS APPLY")
     ∷ phrase (bytes "OUTER APPLY")
     ∷ phrase (bytes "AND")

@@ -4,7 +4,7 @@ use Rattle.recognisers.specs.Text.{bytes}
 use Rattle.reserved.specs.Phrases.{Phrase, phrase}
 
 -- there is one
-unfoldable pub newlineAfterPhrases : List Phrase
-newlineAfterPhrases =
+unfoldable pub newline_after_phrases : List Phrase
+newline_after_phrases =
     phrase (bytes "DO UPDATE SET")
     ∷ []

@@ -4,8 +4,8 @@ use Rattle.recognisers.specs.Text.{bytes}
 use Rattle.reserved.specs.Phrases.{Phrase, phrase}
 
 -- in the order of the Rust
-unfoldable pub noIndentPhrases : List Phrase
-noIndentPhrases =
+unfoldable pub no_indent_phrases : List Phrase
+no_indent_phrases =
     phrase (bytes "BEGIN")
     ∷ phrase (bytes "DECLARE")
     ∷ phrase (bytes "INTERSECT ALL")

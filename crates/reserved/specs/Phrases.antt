@@ -4,7 +4,7 @@ use Rattle.std.specs.Prelude.{ℕ, cond, List, [], ◌∷◌, ◌++◌, eqb, dro
 use Rattle.recognisers.specs.declared.Taken.{Taken}
 use Rattle.recognisers.specs.declared.Taken.TheVariants.{Bytes, Fails}
 use Rattle.recognisers.specs.Text.{byte, bytes}
-use Rattle.recognisers.specs.Taking.{Taker, more, or, done, one, capital, blanks, endOfWord}
+use Rattle.recognisers.specs.Taking.{Taker, more, or, done, one, capital, blanks, end_of_word}
 
 -- the words of a phrase: a letter in either case, and any whitespace where the phrase has a space
 unfoldable pub walk : List ℕ → Taker → Taker
@@ -22,16 +22,16 @@ optional words then s = after (walk words done s) then s
 pub data Phrase : Type 0 where
   phrase : List ℕ → Phrase
   -- with `opt(" IF EXISTS")` behind it
-  phraseIfExists : List ℕ → Phrase
+  phrase_if_exists : List ℕ → Phrase
 
-unfoldable pub phraseEnd : Phrase → Taker
-phraseEnd (phrase words) s = walk words endOfWord s
-phraseEnd (phraseIfExists words) s = walk words (optional (bytes " IF EXISTS") endOfWord) s
+unfoldable pub phrase_end : Phrase → Taker
+phrase_end (phrase words) s = walk words end_of_word s
+phrase_end (phrase_if_exists words) s = walk words (optional (bytes " IF EXISTS") end_of_word) s
 
 -- the first phrase of a list that stands at the start of the text
-unfoldable pub firstPhrase : List Phrase → Taker
-firstPhrase [] s = Fails
-firstPhrase (p ∷ phrases) s = or (phraseEnd p s) (firstPhrase phrases s)
+unfoldable pub first_phrase : List Phrase → Taker
+first_phrase [] s = Fails
+first_phrase (p ∷ phrases) s = or (phrase_end p s) (first_phrase phrases s)
 
 -- each of these words behind others
 unfoldable pub each : List ℕ → List (List ℕ) → List Phrase

@@ -4,8 +4,8 @@ use Rattle.recognisers.specs.Text.{bytes}
 use Rattle.reserved.specs.Phrases.{Phrase, phrase}
 
 -- `get_plain_reserved_two_token`
-unfoldable pub plainTwoPhrases : List Phrase
-plainTwoPhrases =
+unfoldable pub plain_two_phrases : List Phrase
+plain_two_phrases =
     phrase (bytes "CHARACTER SET")
     ∷ phrase (bytes "DO NOTHING")
     ∷ phrase (bytes "ON CONFLICT")
@@ -17,8 +17,8 @@ plainTwoPhrases =
     ∷ []
 
 -- `get_plain_reserved_one_token`, A
-unfoldable pub plainA : List Phrase
-plainA =
+unfoldable pub plain_a : List Phrase
+plain_a =
     phrase (bytes "ACCESSIBLE")
     ∷ phrase (bytes "ACTION")
     ∷ phrase (bytes "AGAINST")
@@ -35,8 +35,8 @@ plainA =
     ∷ []
 
 -- `get_plain_reserved_one_token`, B
-unfoldable pub plainB : List Phrase
-plainB =
+unfoldable pub plain_b : List Phrase
+plain_b =
     phrase (bytes "BACKUP")
     ∷ phrase (bytes "BETWEEN")
     ∷ phrase (bytes "BINLOG")
@@ -44,8 +44,8 @@ plainB =
     ∷ []
 
 -- `get_plain_reserved_one_token`, C
-unfoldable pub plainC : List Phrase
-plainC =
+unfoldable pub plain_c : List Phrase
+plain_c =
     phrase (bytes "CASCADE")
     ∷ phrase (bytes "CASE")
     ∷ phrase (bytes "CHANGE")
@@ -71,8 +71,8 @@ plainC =
     ∷ []
 
 -- `get_plain_reserved_one_token`, D
-unfoldable pub plainD : List Phrase
-plainD =
+unfoldable pub plain_d : List Phrase
+plain_d =
     phrase (bytes "DATABASE")
     ∷ phrase (bytes "DATABASES")
     ∷ phrase (bytes "DAY")
@@ -97,8 +97,8 @@ plainD =
     ∷ []
 
 -- `get_plain_reserved_one_token`, E
-unfoldable pub plainE : List Phrase
-plainE =
+unfoldable pub plain_e : List Phrase
+plain_e =
     phrase (bytes "ELSE")
     ∷ phrase (bytes "ENCLOSED")
     ∷ phrase (bytes "END")
@@ -116,8 +116,8 @@ plainE =
     ∷ []
 
 -- `get_plain_reserved_one_token`, F
-unfoldable pub plainF : List Phrase
-plainF =
+unfoldable pub plain_f : List Phrase
+plain_f =
     phrase (bytes "FAST")
     ∷ phrase (bytes "FETCH")
     ∷ phrase (bytes "FIELDS")
@@ -134,8 +134,8 @@ plainF =
     ∷ []
 
 -- `get_plain_reserved_one_token`, G
-unfoldable pub plainG : List Phrase
-plainG =
+unfoldable pub plain_g : List Phrase
+plain_g =
     phrase (bytes "GLOBAL")
     ∷ phrase (bytes "GRANT")
     ∷ phrase (bytes "GRANTS")
@@ -143,8 +143,8 @@ plainG =
     ∷ []
 
 -- `get_plain_reserved_one_token`, H
-unfoldable pub plainH : List Phrase
-plainH =
+unfoldable pub plain_h : List Phrase
+plain_h =
     phrase (bytes "HEAP")
     ∷ phrase (bytes "HIGH_PRIORITY")
     ∷ phrase (bytes "HOSTS")
@@ -154,8 +154,8 @@ plainH =
     ∷ []
 
 -- `get_plain_reserved_one_token`, I
-unfoldable pub plainI : List Phrase
-plainI =
+unfoldable pub plain_i : List Phrase
+plain_i =
     phrase (bytes "IDENTIFIED")
     ∷ phrase (bytes "IF")
     ∷ phrase (bytes "IFNULL")
@@ -175,16 +175,16 @@ plainI =
     ∷ []
 
 -- `get_plain_reserved_one_token`, K
-unfoldable pub plainK : List Phrase
-plainK =
+unfoldable pub plain_k : List Phrase
+plain_k =
     phrase (bytes "KEY")
     ∷ phrase (bytes "KEYS")
     ∷ phrase (bytes "KILL")
     ∷ []
 
 -- `get_plain_reserved_one_token`, L
-unfoldable pub plainL : List Phrase
-plainL =
+unfoldable pub plain_l : List Phrase
+plain_l =
     phrase (bytes "LAST_INSERT_ID")
     ∷ phrase (bytes "LEADING")
     ∷ phrase (bytes "LEVEL")
@@ -200,8 +200,8 @@ plainL =
     ∷ []
 
 -- `get_plain_reserved_one_token`, M
-unfoldable pub plainM : List Phrase
-plainM =
+unfoldable pub plain_m : List Phrase
+plain_m =
     phrase (bytes "MARIA")
     ∷ phrase (bytes "MASTER")
     ∷ phrase (bytes "MASTER_CONNECT_RETRY")
@@ -226,8 +226,8 @@ plainM =
     ∷ []
 
 -- `get_plain_reserved_one_token`, N
-unfoldable pub plainN : List Phrase
-plainN =
+unfoldable pub plain_n : List Phrase
+plain_n =
     phrase (bytes "NAMES")
     ∷ phrase (bytes "NATURAL")
     ∷ phrase (bytes "NOT")
@@ -236,8 +236,8 @@ plainN =
     ∷ []
 
 -- `get_plain_reserved_one_token`, O
-unfoldable pub plainO : List Phrase
-plainO =
+unfoldable pub plain_o : List Phrase
+plain_o =
     phrase (bytes "OFFSET")
     ∷ phrase (bytes "ON")
     ∷ phrase (bytes "ONLY")
@@ -249,8 +249,8 @@ plainO =
     ∷ []
 
 -- `get_plain_reserved_one_token`, P
-unfoldable pub plainP : List Phrase
-plainP =
+unfoldable pub plain_p : List Phrase
+plain_p =
     phrase (bytes "PACK_KEYS")
     ∷ phrase (bytes "PAGE")
     ∷ phrase (bytes "PARTIAL")
@@ -266,14 +266,14 @@ plainP =
     ∷ []
 
 -- `get_plain_reserved_one_token`, Q
-unfoldable pub plainQ : List Phrase
-plainQ =
+unfoldable pub plain_q : List Phrase
+plain_q =
     phrase (bytes "QUICK")
     ∷ []
 
 -- `get_plain_reserved_one_token`, R
-unfoldable pub plainR : List Phrase
-plainR =
+unfoldable pub plain_r : List Phrase
+plain_r =
     phrase (bytes "RAID0")
     ∷ phrase (bytes "RAID_CHUNKS")
     ∷ phrase (bytes "RAID_CHUNKSIZE")
@@ -304,8 +304,8 @@ plainR =
     ∷ []
 
 -- `get_plain_reserved_one_token`, S
-unfoldable pub plainS : List Phrase
-plainS =
+unfoldable pub plain_s : List Phrase
+plain_s =
     phrase (bytes "SECOND")
     ∷ phrase (bytes "SECURITY")
     ∷ phrase (bytes "SEPARATOR")
@@ -349,8 +349,8 @@ plainS =
     ∷ []
 
 -- `get_plain_reserved_one_token`, T
-unfoldable pub plainT : List Phrase
-plainT =
+unfoldable pub plain_t : List Phrase
+plain_t =
     phrase (bytes "TABLE")
     ∷ phrase (bytes "TABLES")
     ∷ phrase (bytes "TEMPORARY")
@@ -367,8 +367,8 @@ plainT =
     ∷ []
 
 -- `get_plain_reserved_one_token`, U
-unfoldable pub plainU : List Phrase
-plainU =
+unfoldable pub plain_u : List Phrase
+plain_u =
     phrase (bytes "UNCOMMITTED")
     ∷ phrase (bytes "UNIQUE")
     ∷ phrase (bytes "UNLOCK")
@@ -378,26 +378,26 @@ plainU =
     ∷ []
 
 -- `get_plain_reserved_one_token`, V
-unfoldable pub plainV : List Phrase
-plainV =
+unfoldable pub plain_v : List Phrase
+plain_v =
     phrase (bytes "VARIABLES")
     ∷ phrase (bytes "VIEW")
     ∷ []
 
 -- `get_plain_reserved_one_token`, W
-unfoldable pub plainW : List Phrase
-plainW =
+unfoldable pub plain_w : List Phrase
+plain_w =
     phrase (bytes "WHEN")
     ∷ phrase (bytes "WORK")
     ∷ phrase (bytes "WRITE")
     ∷ []
 
 -- `get_plain_reserved_one_token`, Y
-unfoldable pub plainY : List Phrase
-plainY =
+unfoldable pub plain_y : List Phrase
+plain_y =
     phrase (bytes "YEAR_MONTH")
     ∷ []
 
-unfoldable pub plainOnePhrases : List Phrase
-plainOnePhrases =
-    plainA ++ plainB ++ plainC ++ plainD ++ plainE ++ plainF ++ plainG ++ plainH ++ plainI ++ plainK ++ plainL ++ plainM ++ plainN ++ plainO ++ plainP ++ plainQ ++ plainR ++ plainS ++ plainT ++ plainU ++ plainV ++ plainW ++ plainY
+unfoldable pub plain_one_phrases : List Phrase
+plain_one_phrases =
+    plain_a ++ plain_b ++ plain_c ++ plain_d ++ plain_e ++ plain_f ++ plain_g ++ plain_h ++ plain_i ++ plain_k ++ plain_l ++ plain_m ++ plain_n ++ plain_o ++ plain_p ++ plain_q ++ plain_r ++ plain_s ++ plain_t ++ plain_u ++ plain_v ++ plain_w ++ plain_y

@@ -9,90 +9,90 @@ use Rattle.recognisers.specs.declared.Recognised.{Recognised}
 use Rattle.recognisers.specs.declared.Recognised.TheVariants.{Token, Nothing}
 use Rattle.recognisers.specs.Text.{byte, bytes}
 use Rattle.recognisers.specs.Same.{same}
-use Rattle.recognisers.specs.Taking.{typed, isSpelled, capital, startsWith}
-use Rattle.recognisers.specs.Pieces.{piece, tokenOf, alt}
+use Rattle.recognisers.specs.Taking.{typed, is_spelled, capital, starts_with}
+use Rattle.recognisers.specs.Pieces.{piece, token_of, alt}
 use Rattle.characters.specs.Ranges.{within}
 use Rattle.reserved.specs.declared.TopLevel.{TopLevel}
 use Rattle.reserved.specs.declared.TopLevel.TheVariants.{Select, Update, MergeInto, DeleteFrom, Other}
-use Rattle.reserved.specs.Phrases.{firstPhrase}
-use Rattle.reserved.specs.TopLevel.{topLevelPhrases}
-use Rattle.reserved.specs.NewlineAfter.{newlineAfterPhrases}
-use Rattle.reserved.specs.Newline.{newlinePhrases}
-use Rattle.reserved.specs.Join.{joinPhrases}
-use Rattle.reserved.specs.NoIndent.{noIndentPhrases}
-use Rattle.reserved.specs.Plain.{plainTwoPhrases, plainOnePhrases}
+use Rattle.reserved.specs.Phrases.{first_phrase}
+use Rattle.reserved.specs.TopLevel.{top_level_phrases}
+use Rattle.reserved.specs.NewlineAfter.{newline_after_phrases}
+use Rattle.reserved.specs.Newline.{newline_phrases}
+use Rattle.reserved.specs.Join.{join_phrases}
+use Rattle.reserved.specs.NoIndent.{no_indent_phrases}
+use Rattle.reserved.specs.Plain.{plain_two_phrases, plain_one_phrases}
 
-abbrev pub isSelect : TopLevel → Bool
-isSelect Select = true
-isSelect Update = false
-isSelect MergeInto = false
-isSelect DeleteFrom = false
-isSelect Other = false
+abbrev pub is_select : TopLevel → Bool
+is_select Select = true
+is_select Update = false
+is_select MergeInto = false
+is_select DeleteFrom = false
+is_select Other = false
 
-abbrev pub isUpdate : TopLevel → Bool
-isUpdate Select = false
-isUpdate Update = true
-isUpdate MergeInto = false
-isUpdate DeleteFrom = false
-isUpdate Other = false
+abbrev pub is_update : TopLevel → Bool
+is_update Select = false
+is_update Update = true
+is_update MergeInto = false
+is_update DeleteFrom = false
+is_update Other = false
 
-abbrev pub takesUsing : TopLevel → Bool
-takesUsing Select = false
-takesUsing Update = false
-takesUsing MergeInto = true
-takesUsing DeleteFrom = true
-takesUsing Other = false
+abbrev pub takes_using : TopLevel → Bool
+takes_using Select = false
+takes_using Update = false
+takes_using MergeInto = true
+takes_using DeleteFrom = true
+takes_using Other = false
 
 -- EXCEPT, SET and USING go by the last top-level token
-unfoldable pub topLevelKind : TopLevel → List ℕ → TokenKind
-topLevelKind last value =
-    cond (same value (bytes "EXCEPT") && isSelect last) Reserved
-    (cond (same value (bytes "SET") && isUpdate last) ReservedNewlineAfter
-    (cond (same value (bytes "USING") && not (takesUsing last)) Reserved ReservedTopLevel))
+unfoldable pub top_level_kind : TopLevel → List ℕ → TokenKind
+top_level_kind last value =
+    cond (same value (bytes "EXCEPT") && is_select last) Reserved
+    (cond (same value (bytes "SET") && is_update last) ReservedNewlineAfter
+    (cond (same value (bytes "USING") && not (takes_using last)) Reserved ReservedTopLevel))
 
 -- CREATE and SELECT stand for all phrases that begin so
-unfoldable pub aliasLength : List ℕ → ℕ
-aliasLength value = cond (isSpelled typed (bytes "CREATE") value || isSpelled typed (bytes "SELECT") value) 6 (length value)
+unfoldable pub alias_length : List ℕ → ℕ
+alias_length value = cond (is_spelled typed (bytes "CREATE") value || is_spelled typed (bytes "SELECT") value) 6 (length value)
 
-abbrev pub topLevelToken : TopLevel → List ℕ → Taken → Recognised
-topLevelToken last s (Bytes n) =
-    Token (record { kind = topLevelKind last (take n s); len = n; alias = aliasLength (take n s); key = None; escaped = 0 })
-topLevelToken last s Fails = Nothing
+abbrev pub top_level_token : TopLevel → List ℕ → Taken → Recognised
+top_level_token last s (Bytes n) =
+    Token (record { kind = top_level_kind last (take n s); len = n; alias = alias_length (take n s); key = None; escaped = 0 })
+top_level_token last s Fails = Nothing
 
-unfoldable pub getTopLevelReservedToken : TopLevel → List ℕ → Recognised
-getTopLevelReservedToken last s = topLevelToken last s (firstPhrase topLevelPhrases s)
+unfoldable pub get_top_level_reserved_token : TopLevel → List ℕ → Recognised
+get_top_level_reserved_token last s = top_level_token last s (first_phrase top_level_phrases s)
 
-unfoldable pub getNewlineAfterReservedToken : List ℕ → Recognised
-getNewlineAfterReservedToken s = tokenOf ReservedNewlineAfter (firstPhrase newlineAfterPhrases s)
+unfoldable pub get_newline_after_reserved_token : List ℕ → Recognised
+get_newline_after_reserved_token s = token_of ReservedNewlineAfter (first_phrase newline_after_phrases s)
 
 -- AND belongs to a BETWEEN that was the last reserved word
-abbrev pub newlineToken : Bool → List ℕ → Taken → Recognised
-newlineToken afterBetween s (Bytes n) =
-    Token (piece (cond (same (take n s) (bytes "AND") && afterBetween) Reserved ReservedNewline) n None)
-newlineToken afterBetween s Fails = Nothing
+abbrev pub newline_token : Bool → List ℕ → Taken → Recognised
+newline_token after_between s (Bytes n) =
+    Token (piece (cond (same (take n s) (bytes "AND") && after_between) Reserved ReservedNewline) n None)
+newline_token after_between s Fails = Nothing
 
-unfoldable pub getNewlineReservedToken : Bool → List ℕ → Recognised
-getNewlineReservedToken afterBetween s = newlineToken afterBetween s (firstPhrase newlinePhrases s)
+unfoldable pub get_newline_reserved_token : Bool → List ℕ → Recognised
+get_newline_reserved_token after_between s = newline_token after_between s (first_phrase newline_phrases s)
 
-unfoldable pub getJoinToken : List ℕ → Recognised
-getJoinToken s = tokenOf Join (firstPhrase joinPhrases s)
+unfoldable pub get_join_token : List ℕ → Recognised
+get_join_token s = token_of Join (first_phrase join_phrases s)
 
-unfoldable pub getTopLevelReservedTokenNoIndent : List ℕ → Recognised
-getTopLevelReservedTokenNoIndent s = tokenOf ReservedTopLevelNoIndent (firstPhrase noIndentPhrases s)
+unfoldable pub get_top_level_reserved_token_no_indent : List ℕ → Recognised
+get_top_level_reserved_token_no_indent s = token_of ReservedTopLevelNoIndent (first_phrase no_indent_phrases s)
 
-unfoldable pub getPlainReservedToken : List ℕ → Recognised
-getPlainReservedToken s = alt (tokenOf Reserved (firstPhrase plainTwoPhrases s)) (tokenOf Reserved (firstPhrase plainOnePhrases s))
+unfoldable pub get_plain_reserved_token : List ℕ → Recognised
+get_plain_reserved_token s = alt (token_of Reserved (first_phrase plain_two_phrases s)) (token_of Reserved (first_phrase plain_one_phrases s))
 
 -- a letter or `$`
-unfoldable pub mayBeReserved : List ℕ → Bool
-mayBeReserved s = within (byte "A") (byte "Z") (capital (get_or s 0 0)) || startsWith (byte "$") s
+unfoldable pub may_be_reserved : List ℕ → Bool
+may_be_reserved s = within (byte "A") (byte "Z") (capital (get_or s 0 0)) || starts_with (byte "$") s
 
 -- none is tried after a `.`
-unfoldable pub getReservedWordToken : Bool → Bool → TopLevel → List ℕ → Recognised
-getReservedWordToken afterDot afterBetween last s =
-    cond (afterDot || not (mayBeReserved s)) Nothing
-    (alt (getTopLevelReservedToken last s)
-    (alt (getNewlineAfterReservedToken s)
-    (alt (getNewlineReservedToken afterBetween s)
-    (alt (getJoinToken s)
-    (alt (getTopLevelReservedTokenNoIndent s) (getPlainReservedToken s))))))
+unfoldable pub get_reserved_word_token : Bool → Bool → TopLevel → List ℕ → Recognised
+get_reserved_word_token after_dot after_between last s =
+    cond (after_dot || not (may_be_reserved s)) Nothing
+    (alt (get_top_level_reserved_token last s)
+    (alt (get_newline_after_reserved_token s)
+    (alt (get_newline_reserved_token after_between s)
+    (alt (get_join_token s)
+    (alt (get_top_level_reserved_token_no_indent s) (get_plain_reserved_token s))))))

@@ -1,7 +1,7 @@
 -- The phrases of `get_top_level_reserved_token`, by their first letter.
 use Rattle.std.specs.Prelude.{ℕ, List, [], ◌∷◌, ◌++◌}
 use Rattle.recognisers.specs.Text.{bytes}
-use Rattle.reserved.specs.Phrases.{Phrase, phrase, phraseIfExists, each}
+use Rattle.reserved.specs.Phrases.{Phrase, phrase, phrase_if_exists, each}
 
 unfoldable pub creatable : List (List ℕ)
 creatable =
@@ -14,17 +14,17 @@ creatable =
     ∷ bytes "VIEW"
     ∷ []
 
-unfoldable pub alterableOrDroppable : List (List ℕ)
-alterableOrDroppable = creatable ++ bytes "TABLE" ∷ bytes "INDEX" ∷ []
+unfoldable pub alterable_or_droppable : List (List ℕ)
+alterable_or_droppable = creatable ++ bytes "TABLE" ∷ bytes "INDEX" ∷ []
 
 -- each of these behind DROP, with IF EXISTS behind it or not
-unfoldable pub eachDropped : List (List ℕ) → List Phrase
-eachDropped [] = []
-eachDropped (last ∷ lasts) = phraseIfExists (bytes "DROP " ++ last) ∷ eachDropped lasts
+unfoldable pub each_dropped : List (List ℕ) → List Phrase
+each_dropped [] = []
+each_dropped (last ∷ lasts) = phrase_if_exists (bytes "DROP " ++ last) ∷ each_dropped lasts
 
-unfoldable pub topLevelPhrases : List Phrase
-topLevelPhrases =
-    phrase (bytes "AFTER") ∷ each (bytes "ALTER ") alterableOrDroppable
+unfoldable pub top_level_phrases : List Phrase
+top_level_phrases =
+    phrase (bytes "AFTER") ∷ each (bytes "ALTER ") alterable_or_droppable
     ++ each (bytes "CREATE OR REPLACE ") creatable
     ++ each (bytes "CREATE ") creatable
     ++ phrase (bytes "CREATE UNIQUE INDEX")
@@ -38,7 +38,7 @@ topLevelPhrases =
     ∷ phrase (bytes "CREATE LOCAL TABLE")
     ∷ phrase (bytes "CREATE TABLE")
     ∷ phrase (bytes "DELETE FROM")
-    ∷ eachDropped alterableOrDroppable
+    ∷ each_dropped alterable_or_droppable
     ++ phrase (bytes "EXCEPT")
     ∷ phrase (bytes "FETCH FIRST")
     ∷ phrase (bytes "FROM")

@@ -1,12 +1,12 @@
 -- The alternatives of `get_top_level_reserved_token` nested as the Rust nests them, on the string that `get_uc_words` made.
--- There is no way back into `alt` and `opt`. Written out phrase by phrase they are `topLevelPhrases`: proofs/UcArms.antt.
+-- There is no way back into `alt` and `opt`. Written out phrase by phrase they are `top_level_phrases`: proofs/UcArms.antt.
 use Rattle.std.specs.Prelude.{ℕ, List, [], ◌∷◌, drop}
 use Rattle.recognisers.specs.declared.Taken.{Taken}
 use Rattle.recognisers.specs.declared.Taken.TheVariants.{Bytes, Fails}
 use Rattle.recognisers.specs.Text.{bytes}
-use Rattle.recognisers.specs.Taking.{Taker, more, or, done, literal, endOfWord}
-use Rattle.reserved.specs.TopLevel.{creatable, alterableOrDroppable}
-use Rattle.reserved.specs.UcWords.{getUcWords, opt, finalized}
+use Rattle.recognisers.specs.Taking.{Taker, more, or, done, literal, end_of_word}
+use Rattle.reserved.specs.TopLevel.{creatable, alterable_or_droppable}
+use Rattle.reserved.specs.UcWords.{get_uc_words, opt, finalized}
 
 pub data Choice : Type 0 where
   -- `alt` of words
@@ -27,12 +27,12 @@ behind (Bytes n) then uc = more n (then (drop n uc))
 behind Fails then uc = Fails
 
 -- the first of the words that stands there
-unfoldable pub firstWord : List (List ℕ) → Taker
-firstWord [] uc = Fails
-firstWord (w ∷ ws) uc = or (literal w done uc) (firstWord ws uc)
+unfoldable pub first_word : List (List ℕ) → Taker
+first_word [] uc = Fails
+first_word (w ∷ ws) uc = or (literal w done uc) (first_word ws uc)
 
 unfoldable pub choose : Choice → Taker
-choose (words ws) uc = firstWord ws uc
+choose (words ws) uc = first_word ws uc
 choose (both a b) uc = behind (choose a uc) (choose b) uc
 choose (either a b) uc = or (choose a uc) (choose b uc)
 choose (maybe a) uc = or (choose a uc) (Bytes 0)
@@ -41,15 +41,15 @@ choose (maybe a) uc = or (choose a uc) (Bytes 0)
 pub data Arm : Type 0 where
   ended : Choice → Arm
   -- with `opt(" IF EXISTS")` as the last of the choice
-  endedIfExists : Choice → Arm
+  ended_if_exists : Choice → Arm
 
-unfoldable pub armEnd : Arm → Taker
-armEnd (ended c) uc = behind (choose c uc) endOfWord uc
-armEnd (endedIfExists c) uc = behind (choose c uc) (opt (bytes " IF EXISTS") endOfWord) uc
+unfoldable pub arm_end : Arm → Taker
+arm_end (ended c) uc = behind (choose c uc) end_of_word uc
+arm_end (ended_if_exists c) uc = behind (choose c uc) (opt (bytes " IF EXISTS") end_of_word) uc
 
-unfoldable pub firstArm : List Arm → Taker
-firstArm [] uc = Fails
-firstArm (arm ∷ arms) uc = or (armEnd arm uc) (firstArm arms uc)
+unfoldable pub first_arm : List Arm → Taker
+first_arm [] uc = Fails
+first_arm (arm ∷ arms) uc = or (arm_end arm uc) (first_arm arms uc)
 
 unfoldable pub create : Choice
 create =
@@ -62,22 +62,22 @@ create =
     (both (words (bytes "GLOBAL " ∷ bytes "LOCAL " ∷ [])) (maybe (words (bytes "TEMPORARY " ∷ bytes "TEMP " ∷ []))))))
     (word (bytes "TABLE")))))
 
-unfoldable pub forLock : Choice
-forLock =
+unfoldable pub for_lock : Choice
+for_lock =
     both (word (bytes "FOR ")) (words (bytes "UPDATE" ∷ bytes "NO KEY UPDATE" ∷ bytes "SHARE" ∷ bytes "KEY SHARE" ∷ []))
 
 -- the letters' alternatives one after the other: those of another letter than the text's fail
-unfoldable pub topLevelArms : List Arm
-topLevelArms =
+unfoldable pub top_level_arms : List Arm
+top_level_arms =
     ended (word (bytes "AFTER"))
-    ∷ ended (both (word (bytes "ALTER ")) (words alterableOrDroppable))
+    ∷ ended (both (word (bytes "ALTER ")) (words alterable_or_droppable))
     ∷ ended create
     ∷ ended (word (bytes "DELETE FROM"))
-    ∷ endedIfExists (both (word (bytes "DROP ")) (words alterableOrDroppable))
+    ∷ ended_if_exists (both (word (bytes "DROP ")) (words alterable_or_droppable))
     ∷ ended (word (bytes "EXCEPT"))
     ∷ ended (word (bytes "FETCH FIRST"))
     ∷ ended (word (bytes "FROM"))
-    ∷ ended forLock
+    ∷ ended for_lock
     ∷ ended (word (bytes "GROUP BY"))
     ∷ ended (word (bytes "GO"))
     ∷ ended (word (bytes "HAVING"))
@@ -103,5 +103,5 @@ topLevelArms =
     ∷ ended (word (bytes "WINDOW"))
     ∷ []
 
-unfoldable pub topLevelByUcWords : Taker
-topLevelByUcWords s = finalized s (getUcWords 4 s) (firstArm topLevelArms (getUcWords 4 s))
+unfoldable pub top_level_by_uc_words : Taker
+top_level_by_uc_words s = finalized s (get_uc_words 4 s) (first_arm top_level_arms (get_uc_words 4 s))

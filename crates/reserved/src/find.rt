@@ -3,7 +3,7 @@ ghost use Rattle.std.specs.Prelude.{◌≡◌, [], ◌∷◌, false, ◌≤◌, 
 ghost use Rattle.recognisers.specs.Taking.{done};
 ghost use Rattle.reserved.specs.Phrases.{walk};
 ghost use Rattle.reserved.specs.Inner.Gaps.{Measured};
-ghost use Rattle.reserved.specs.Inner.Entries.{lengthOf, groupOf, ifExists, ending, entryEnd, tableFind};
+ghost use Rattle.reserved.specs.Inner.Entries.{length_of, group_of, if_exists, ending, entry_end, table_find};
 
 use crate::gaps::{gap_at, no_gaps, slot_behind};
 use recognisers::{Taken, capital_of, end_of_word, n_more};
@@ -62,7 +62,7 @@ fn words_end(rest: &[u8], words: &[u8], gaps: &mut [usize]) -> Taken
 
 // `opt(" IF EXISTS")` and the end of the word.
 fn if_exists(rest: &[u8]) -> Taken
-    ensures { result ≡ ifExists rest.now }
+    ensures { result ≡ if_exists rest.now }
 {
     let mut gaps = no_gaps(rest);
     match words_end(rest, b" IF EXISTS", &mut gaps) {
@@ -82,7 +82,7 @@ fn ending_of(rest: &[u8], optional: bool) -> Taken
 
 fn entry_end(rest: &[u8], group: u8, words: &[u8], gaps: &mut [usize]) -> Taken
     requires { Measured gaps.old rest.now }
-    ensures value { result ≡ entryEnd group words.now rest.now }
+    ensures value { result ≡ entry_end group words.now rest.now }
     ensures measured { Measured gaps.new rest.now }
 {
     match words_end(rest, words, gaps) {
@@ -100,8 +100,8 @@ fn wide(b: u8) -> usize
 // The first entry of a table that stands at the start of the rest: how many bytes it takes, or 0. Its group's letter is written
 // to `found`. (An enum for both would go through memory, which takes longer than the search.)
 pub fn find_in(table: &[u8], rest: &[u8], found: &mut u8) -> usize
-    ensures value { result ≡ lengthOf (tableFind 0 table.now rest.now) }
-    ensures found_after { found.new ≡ groupOf found.old (tableFind 0 table.now rest.now) }
+    ensures value { result ≡ length_of (table_find 0 table.now rest.now) }
+    ensures found_after { found.new ≡ group_of found.old (table_find 0 table.now rest.now) }
 {
     let mut gaps = no_gaps(rest);
     let mut at = 0;

@@ -1,7 +1,7 @@
 // The gaps between the words of a phrase, each walked once however many phrases begin alike: the place in the rest of the first, the
 // second and the third that was looked at, and behind these how long they are.
 ghost use Rattle.std.specs.Prelude.{◌≡◌, [], ◌∷◌, ◌≤◌, ◌<◌, length, drop};
-ghost use Rattle.characters.specs.Runs.{run, inClass};
+ghost use Rattle.characters.specs.Runs.{run, in_class};
 ghost use Rattle.characters.specs.declared.Class.TheVariants.{Whitespace};
 ghost use Rattle.reserved.specs.Inner.Gaps.{Measured};
 
@@ -36,7 +36,7 @@ pub fn gap_at(rest: &[u8], at: usize, slot: usize, gaps: &mut [usize]) -> usize
     requires at_in_bounds { at ≤ length rest.now }
     requires slot_bound { slot < 3 }
     requires measured { Measured gaps.old rest.now }
-    ensures value { result ≡ run (inClass Whitespace) 0 (drop at rest.now) }
+    ensures value { result ≡ run (in_class Whitespace) 0 (drop at rest.now) }
     ensures measured_2 { Measured gaps.new rest.now }
 {
     if gaps[slot] == at {

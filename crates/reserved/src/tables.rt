@@ -1,17 +1,17 @@
 // One decision on the first letter and one on the first word's length pick the table in which a phrase is looked for. Made by
 // tools/phrases.py from the lists in specs/.
 ghost use Rattle.std.specs.Prelude.{◌≡◌};
-ghost use Rattle.reserved.specs.Inner.Entries.{lengthOf, groupOf, entries, entriesOf, findEntry};
-ghost use Rattle.recognisers.specs.Inner.WordLength.{wordLength};
+ghost use Rattle.reserved.specs.Inner.Entries.{length_of, group_of, entries, entries_of, find_entry};
+ghost use Rattle.recognisers.specs.Inner.WordLength.{word_length};
 
 use crate::find::find_in;
 use crate::phrases;
 use recognisers::capital_of;
 
 fn find_dollar(rest: &[u8], n: usize, found: &mut u8) -> usize
-    requires { n ≡ wordLength rest.now }
-    ensures value { result ≡ lengthOf (findEntry (entriesOf 36 entries) rest.now) }
-    ensures found_after { found.new ≡ groupOf found.old (findEntry (entriesOf 36 entries) rest.now) }
+    requires { n ≡ word_length rest.now }
+    ensures value { result ≡ length_of (find_entry (entries_of 36 entries) rest.now) }
+    ensures found_after { found.new ≡ group_of found.old (find_entry (entries_of 36 entries) rest.now) }
 {
     match n {
         0 => find_in(&phrases::DOLLAR_0, rest, found),
@@ -20,9 +20,9 @@ fn find_dollar(rest: &[u8], n: usize, found: &mut u8) -> usize
 }
 
 fn find_a(rest: &[u8], n: usize, found: &mut u8) -> usize
-    requires { n ≡ wordLength rest.now }
-    ensures value { result ≡ lengthOf (findEntry (entriesOf 65 entries) rest.now) }
-    ensures found_after { found.new ≡ groupOf found.old (findEntry (entriesOf 65 entries) rest.now) }
+    requires { n ≡ word_length rest.now }
+    ensures value { result ≡ length_of (find_entry (entries_of 65 entries) rest.now) }
+    ensures found_after { found.new ≡ group_of found.old (find_entry (entries_of 65 entries) rest.now) }
 {
     match n {
         2 => find_in(&phrases::A_2, rest, found),
@@ -39,9 +39,9 @@ fn find_a(rest: &[u8], n: usize, found: &mut u8) -> usize
 }
 
 fn find_b(rest: &[u8], n: usize, found: &mut u8) -> usize
-    requires { n ≡ wordLength rest.now }
-    ensures value { result ≡ lengthOf (findEntry (entriesOf 66 entries) rest.now) }
-    ensures found_after { found.new ≡ groupOf found.old (findEntry (entriesOf 66 entries) rest.now) }
+    requires { n ≡ word_length rest.now }
+    ensures value { result ≡ length_of (find_entry (entries_of 66 entries) rest.now) }
+    ensures found_after { found.new ≡ group_of found.old (find_entry (entries_of 66 entries) rest.now) }
 {
     match n {
         4 => find_in(&phrases::B_4, rest, found),
@@ -53,9 +53,9 @@ fn find_b(rest: &[u8], n: usize, found: &mut u8) -> usize
 }
 
 fn find_c(rest: &[u8], n: usize, found: &mut u8) -> usize
-    requires { n ≡ wordLength rest.now }
-    ensures value { result ≡ lengthOf (findEntry (entriesOf 67 entries) rest.now) }
-    ensures found_after { found.new ≡ groupOf found.old (findEntry (entriesOf 67 entries) rest.now) }
+    requires { n ≡ word_length rest.now }
+    ensures value { result ≡ length_of (find_entry (entries_of 67 entries) rest.now) }
+    ensures found_after { found.new ≡ group_of found.old (find_entry (entries_of 67 entries) rest.now) }
 {
     match n {
         4 => find_in(&phrases::C_4, rest, found),
@@ -71,9 +71,9 @@ fn find_c(rest: &[u8], n: usize, found: &mut u8) -> usize
 }
 
 fn find_d(rest: &[u8], n: usize, found: &mut u8) -> usize
-    requires { n ≡ wordLength rest.now }
-    ensures value { result ≡ lengthOf (findEntry (entriesOf 68 entries) rest.now) }
-    ensures found_after { found.new ≡ groupOf found.old (findEntry (entriesOf 68 entries) rest.now) }
+    requires { n ≡ word_length rest.now }
+    ensures value { result ≡ length_of (find_entry (entries_of 68 entries) rest.now) }
+    ensures found_after { found.new ≡ group_of found.old (find_entry (entries_of 68 entries) rest.now) }
 {
     match n {
         2 => find_in(&phrases::D_2, rest, found),
@@ -91,9 +91,9 @@ fn find_d(rest: &[u8], n: usize, found: &mut u8) -> usize
 }
 
 fn find_e(rest: &[u8], n: usize, found: &mut u8) -> usize
-    requires { n ≡ wordLength rest.now }
-    ensures value { result ≡ lengthOf (findEntry (entriesOf 69 entries) rest.now) }
-    ensures found_after { found.new ≡ groupOf found.old (findEntry (entriesOf 69 entries) rest.now) }
+    requires { n ≡ word_length rest.now }
+    ensures value { result ≡ length_of (find_entry (entries_of 69 entries) rest.now) }
+    ensures found_after { found.new ≡ group_of found.old (find_entry (entries_of 69 entries) rest.now) }
 {
     match n {
         3 => find_in(&phrases::E_3, rest, found),
@@ -107,9 +107,9 @@ fn find_e(rest: &[u8], n: usize, found: &mut u8) -> usize
 }
 
 fn find_f(rest: &[u8], n: usize, found: &mut u8) -> usize
-    requires { n ≡ wordLength rest.now }
-    ensures value { result ≡ lengthOf (findEntry (entriesOf 70 entries) rest.now) }
-    ensures found_after { found.new ≡ groupOf found.old (findEntry (entriesOf 70 entries) rest.now) }
+    requires { n ≡ word_length rest.now }
+    ensures value { result ≡ length_of (find_entry (entries_of 70 entries) rest.now) }
+    ensures found_after { found.new ≡ group_of found.old (find_entry (entries_of 70 entries) rest.now) }
 {
     match n {
         3 => find_in(&phrases::F_3, rest, found),
@@ -123,9 +123,9 @@ fn find_f(rest: &[u8], n: usize, found: &mut u8) -> usize
 }
 
 fn find_g(rest: &[u8], n: usize, found: &mut u8) -> usize
-    requires { n ≡ wordLength rest.now }
-    ensures value { result ≡ lengthOf (findEntry (entriesOf 71 entries) rest.now) }
-    ensures found_after { found.new ≡ groupOf found.old (findEntry (entriesOf 71 entries) rest.now) }
+    requires { n ≡ word_length rest.now }
+    ensures value { result ≡ length_of (find_entry (entries_of 71 entries) rest.now) }
+    ensures found_after { found.new ≡ group_of found.old (find_entry (entries_of 71 entries) rest.now) }
 {
     match n {
         2 => find_in(&phrases::G_2, rest, found),
@@ -137,9 +137,9 @@ fn find_g(rest: &[u8], n: usize, found: &mut u8) -> usize
 }
 
 fn find_h(rest: &[u8], n: usize, found: &mut u8) -> usize
-    requires { n ≡ wordLength rest.now }
-    ensures value { result ≡ lengthOf (findEntry (entriesOf 72 entries) rest.now) }
-    ensures found_after { found.new ≡ groupOf found.old (findEntry (entriesOf 72 entries) rest.now) }
+    requires { n ≡ word_length rest.now }
+    ensures value { result ≡ length_of (find_entry (entries_of 72 entries) rest.now) }
+    ensures found_after { found.new ≡ group_of found.old (find_entry (entries_of 72 entries) rest.now) }
 {
     match n {
         4 => find_in(&phrases::H_4, rest, found),
@@ -152,9 +152,9 @@ fn find_h(rest: &[u8], n: usize, found: &mut u8) -> usize
 }
 
 fn find_i(rest: &[u8], n: usize, found: &mut u8) -> usize
-    requires { n ≡ wordLength rest.now }
-    ensures value { result ≡ lengthOf (findEntry (entriesOf 73 entries) rest.now) }
-    ensures found_after { found.new ≡ groupOf found.old (findEntry (entriesOf 73 entries) rest.now) }
+    requires { n ≡ word_length rest.now }
+    ensures value { result ≡ length_of (find_entry (entries_of 73 entries) rest.now) }
+    ensures found_after { found.new ≡ group_of found.old (find_entry (entries_of 73 entries) rest.now) }
 {
     match n {
         2 => find_in(&phrases::I_2, rest, found),
@@ -171,9 +171,9 @@ fn find_i(rest: &[u8], n: usize, found: &mut u8) -> usize
 }
 
 fn find_j(rest: &[u8], n: usize, found: &mut u8) -> usize
-    requires { n ≡ wordLength rest.now }
-    ensures value { result ≡ lengthOf (findEntry (entriesOf 74 entries) rest.now) }
-    ensures found_after { found.new ≡ groupOf found.old (findEntry (entriesOf 74 entries) rest.now) }
+    requires { n ≡ word_length rest.now }
+    ensures value { result ≡ length_of (find_entry (entries_of 74 entries) rest.now) }
+    ensures found_after { found.new ≡ group_of found.old (find_entry (entries_of 74 entries) rest.now) }
 {
     match n {
         4 => find_in(&phrases::J_4, rest, found),
@@ -182,9 +182,9 @@ fn find_j(rest: &[u8], n: usize, found: &mut u8) -> usize
 }
 
 fn find_k(rest: &[u8], n: usize, found: &mut u8) -> usize
-    requires { n ≡ wordLength rest.now }
-    ensures value { result ≡ lengthOf (findEntry (entriesOf 75 entries) rest.now) }
-    ensures found_after { found.new ≡ groupOf found.old (findEntry (entriesOf 75 entries) rest.now) }
+    requires { n ≡ word_length rest.now }
+    ensures value { result ≡ length_of (find_entry (entries_of 75 entries) rest.now) }
+    ensures found_after { found.new ≡ group_of found.old (find_entry (entries_of 75 entries) rest.now) }
 {
     match n {
         3 => find_in(&phrases::K_3, rest, found),
@@ -194,9 +194,9 @@ fn find_k(rest: &[u8], n: usize, found: &mut u8) -> usize
 }
 
 fn find_l(rest: &[u8], n: usize, found: &mut u8) -> usize
-    requires { n ≡ wordLength rest.now }
-    ensures value { result ≡ lengthOf (findEntry (entriesOf 76 entries) rest.now) }
-    ensures found_after { found.new ≡ groupOf found.old (findEntry (entriesOf 76 entries) rest.now) }
+    requires { n ≡ word_length rest.now }
+    ensures value { result ≡ length_of (find_entry (entries_of 76 entries) rest.now) }
+    ensures found_after { found.new ≡ group_of found.old (find_entry (entries_of 76 entries) rest.now) }
 {
     match n {
         4 => find_in(&phrases::L_4, rest, found),
@@ -210,9 +210,9 @@ fn find_l(rest: &[u8], n: usize, found: &mut u8) -> usize
 }
 
 fn find_m(rest: &[u8], n: usize, found: &mut u8) -> usize
-    requires { n ≡ wordLength rest.now }
-    ensures value { result ≡ lengthOf (findEntry (entriesOf 77 entries) rest.now) }
-    ensures found_after { found.new ≡ groupOf found.old (findEntry (entriesOf 77 entries) rest.now) }
+    requires { n ≡ word_length rest.now }
+    ensures value { result ≡ length_of (find_entry (entries_of 77 entries) rest.now) }
+    ensures found_after { found.new ≡ group_of found.old (find_entry (entries_of 77 entries) rest.now) }
 {
     match n {
         4 => find_in(&phrases::M_4, rest, found),
@@ -230,9 +230,9 @@ fn find_m(rest: &[u8], n: usize, found: &mut u8) -> usize
 }
 
 fn find_n(rest: &[u8], n: usize, found: &mut u8) -> usize
-    requires { n ≡ wordLength rest.now }
-    ensures value { result ≡ lengthOf (findEntry (entriesOf 78 entries) rest.now) }
-    ensures found_after { found.new ≡ groupOf found.old (findEntry (entriesOf 78 entries) rest.now) }
+    requires { n ≡ word_length rest.now }
+    ensures value { result ≡ length_of (find_entry (entries_of 78 entries) rest.now) }
+    ensures found_after { found.new ≡ group_of found.old (find_entry (entries_of 78 entries) rest.now) }
 {
     match n {
         3 => find_in(&phrases::N_3, rest, found),
@@ -244,9 +244,9 @@ fn find_n(rest: &[u8], n: usize, found: &mut u8) -> usize
 }
 
 fn find_o(rest: &[u8], n: usize, found: &mut u8) -> usize
-    requires { n ≡ wordLength rest.now }
-    ensures value { result ≡ lengthOf (findEntry (entriesOf 79 entries) rest.now) }
-    ensures found_after { found.new ≡ groupOf found.old (findEntry (entriesOf 79 entries) rest.now) }
+    requires { n ≡ word_length rest.now }
+    ensures value { result ≡ length_of (find_entry (entries_of 79 entries) rest.now) }
+    ensures found_after { found.new ≡ group_of found.old (find_entry (entries_of 79 entries) rest.now) }
 {
     match n {
         2 => find_in(&phrases::O_2, rest, found),
@@ -261,9 +261,9 @@ fn find_o(rest: &[u8], n: usize, found: &mut u8) -> usize
 }
 
 fn find_p(rest: &[u8], n: usize, found: &mut u8) -> usize
-    requires { n ≡ wordLength rest.now }
-    ensures value { result ≡ lengthOf (findEntry (entriesOf 80 entries) rest.now) }
-    ensures found_after { found.new ≡ groupOf found.old (findEntry (entriesOf 80 entries) rest.now) }
+    requires { n ≡ word_length rest.now }
+    ensures value { result ≡ length_of (find_entry (entries_of 80 entries) rest.now) }
+    ensures found_after { found.new ≡ group_of found.old (find_entry (entries_of 80 entries) rest.now) }
 {
     match n {
         4 => find_in(&phrases::P_4, rest, found),
@@ -278,9 +278,9 @@ fn find_p(rest: &[u8], n: usize, found: &mut u8) -> usize
 }
 
 fn find_q(rest: &[u8], n: usize, found: &mut u8) -> usize
-    requires { n ≡ wordLength rest.now }
-    ensures value { result ≡ lengthOf (findEntry (entriesOf 81 entries) rest.now) }
-    ensures found_after { found.new ≡ groupOf found.old (findEntry (entriesOf 81 entries) rest.now) }
+    requires { n ≡ word_length rest.now }
+    ensures value { result ≡ length_of (find_entry (entries_of 81 entries) rest.now) }
+    ensures found_after { found.new ≡ group_of found.old (find_entry (entries_of 81 entries) rest.now) }
 {
     match n {
         5 => find_in(&phrases::Q_5, rest, found),
@@ -289,9 +289,9 @@ fn find_q(rest: &[u8], n: usize, found: &mut u8) -> usize
 }
 
 fn find_r(rest: &[u8], n: usize, found: &mut u8) -> usize
-    requires { n ≡ wordLength rest.now }
-    ensures value { result ≡ lengthOf (findEntry (entriesOf 82 entries) rest.now) }
-    ensures found_after { found.new ≡ groupOf found.old (findEntry (entriesOf 82 entries) rest.now) }
+    requires { n ≡ word_length rest.now }
+    ensures value { result ≡ length_of (find_entry (entries_of 82 entries) rest.now) }
+    ensures found_after { found.new ≡ group_of found.old (find_entry (entries_of 82 entries) rest.now) }
 {
     match n {
         3 => find_in(&phrases::R_3, rest, found),
@@ -309,9 +309,9 @@ fn find_r(rest: &[u8], n: usize, found: &mut u8) -> usize
 }
 
 fn find_s(rest: &[u8], n: usize, found: &mut u8) -> usize
-    requires { n ≡ wordLength rest.now }
-    ensures value { result ≡ lengthOf (findEntry (entriesOf 83 entries) rest.now) }
-    ensures found_after { found.new ≡ groupOf found.old (findEntry (entriesOf 83 entries) rest.now) }
+    requires { n ≡ word_length rest.now }
+    ensures value { result ≡ length_of (find_entry (entries_of 83 entries) rest.now) }
+    ensures found_after { found.new ≡ group_of found.old (find_entry (entries_of 83 entries) rest.now) }
 {
     match n {
         3 => find_in(&phrases::S_3, rest, found),
@@ -337,9 +337,9 @@ fn find_s(rest: &[u8], n: usize, found: &mut u8) -> usize
 }
 
 fn find_t(rest: &[u8], n: usize, found: &mut u8) -> usize
-    requires { n ≡ wordLength rest.now }
-    ensures value { result ≡ lengthOf (findEntry (entriesOf 84 entries) rest.now) }
-    ensures found_after { found.new ≡ groupOf found.old (findEntry (entriesOf 84 entries) rest.now) }
+    requires { n ≡ word_length rest.now }
+    ensures value { result ≡ length_of (find_entry (entries_of 84 entries) rest.now) }
+    ensures found_after { found.new ≡ group_of found.old (find_entry (entries_of 84 entries) rest.now) }
 {
     match n {
         2 => find_in(&phrases::T_2, rest, found),
@@ -355,9 +355,9 @@ fn find_t(rest: &[u8], n: usize, found: &mut u8) -> usize
 }
 
 fn find_u(rest: &[u8], n: usize, found: &mut u8) -> usize
-    requires { n ≡ wordLength rest.now }
-    ensures value { result ≡ lengthOf (findEntry (entriesOf 85 entries) rest.now) }
-    ensures found_after { found.new ≡ groupOf found.old (findEntry (entriesOf 85 entries) rest.now) }
+    requires { n ≡ word_length rest.now }
+    ensures value { result ≡ length_of (find_entry (entries_of 85 entries) rest.now) }
+    ensures found_after { found.new ≡ group_of found.old (find_entry (entries_of 85 entries) rest.now) }
 {
     match n {
         3 => find_in(&phrases::U_3, rest, found),
@@ -370,9 +370,9 @@ fn find_u(rest: &[u8], n: usize, found: &mut u8) -> usize
 }
 
 fn find_v(rest: &[u8], n: usize, found: &mut u8) -> usize
-    requires { n ≡ wordLength rest.now }
-    ensures value { result ≡ lengthOf (findEntry (entriesOf 86 entries) rest.now) }
-    ensures found_after { found.new ≡ groupOf found.old (findEntry (entriesOf 86 entries) rest.now) }
+    requires { n ≡ word_length rest.now }
+    ensures value { result ≡ length_of (find_entry (entries_of 86 entries) rest.now) }
+    ensures found_after { found.new ≡ group_of found.old (find_entry (entries_of 86 entries) rest.now) }
 {
     match n {
         4 => find_in(&phrases::V_4, rest, found),
@@ -384,9 +384,9 @@ fn find_v(rest: &[u8], n: usize, found: &mut u8) -> usize
 }
 
 fn find_w(rest: &[u8], n: usize, found: &mut u8) -> usize
-    requires { n ≡ wordLength rest.now }
-    ensures value { result ≡ lengthOf (findEntry (entriesOf 87 entries) rest.now) }
-    ensures found_after { found.new ≡ groupOf found.old (findEntry (entriesOf 87 entries) rest.now) }
+    requires { n ≡ word_length rest.now }
+    ensures value { result ≡ length_of (find_entry (entries_of 87 entries) rest.now) }
+    ensures found_after { found.new ≡ group_of found.old (find_entry (entries_of 87 entries) rest.now) }
 {
     match n {
         4 => find_in(&phrases::W_4, rest, found),
@@ -397,9 +397,9 @@ fn find_w(rest: &[u8], n: usize, found: &mut u8) -> usize
 }
 
 fn find_x(rest: &[u8], n: usize, found: &mut u8) -> usize
-    requires { n ≡ wordLength rest.now }
-    ensures value { result ≡ lengthOf (findEntry (entriesOf 88 entries) rest.now) }
-    ensures found_after { found.new ≡ groupOf found.old (findEntry (entriesOf 88 entries) rest.now) }
+    requires { n ≡ word_length rest.now }
+    ensures value { result ≡ length_of (find_entry (entries_of 88 entries) rest.now) }
+    ensures found_after { found.new ≡ group_of found.old (find_entry (entries_of 88 entries) rest.now) }
 {
     match n {
         3 => find_in(&phrases::X_3, rest, found),
@@ -408,9 +408,9 @@ fn find_x(rest: &[u8], n: usize, found: &mut u8) -> usize
 }
 
 fn find_y(rest: &[u8], n: usize, found: &mut u8) -> usize
-    requires { n ≡ wordLength rest.now }
-    ensures value { result ≡ lengthOf (findEntry (entriesOf 89 entries) rest.now) }
-    ensures found_after { found.new ≡ groupOf found.old (findEntry (entriesOf 89 entries) rest.now) }
+    requires { n ≡ word_length rest.now }
+    ensures value { result ≡ length_of (find_entry (entries_of 89 entries) rest.now) }
+    ensures found_after { found.new ≡ group_of found.old (find_entry (entries_of 89 entries) rest.now) }
 {
     match n {
         10 => find_in(&phrases::Y_10, rest, found),
@@ -420,9 +420,9 @@ fn find_y(rest: &[u8], n: usize, found: &mut u8) -> usize
 
 // The first phrase that stands at the start of the rest: how many bytes it takes, or 0. Its group's letter is written to `found`.
 pub fn find_phrase(rest: &[u8], n: usize, found: &mut u8) -> usize
-    requires { n ≡ wordLength rest.now }
-    ensures value { result ≡ lengthOf (findEntry entries rest.now) }
-    ensures found_after { found.new ≡ groupOf found.old (findEntry entries rest.now) }
+    requires { n ≡ word_length rest.now }
+    ensures value { result ≡ length_of (find_entry entries rest.now) }
+    ensures found_after { found.new ≡ group_of found.old (find_entry entries rest.now) }
 {
     if rest.len() == 0 {
         return 0;

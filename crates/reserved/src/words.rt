@@ -3,11 +3,11 @@ ghost use Rattle.std.specs.Prelude.{◌≡◌, not, ◌&&◌, ◌||◌, ◌≤�
 ghost use Rattle.characters.specs.Ranges.{within};
 ghost use Rattle.recognisers.specs.Text.{byte, bytes};
 ghost use Rattle.recognisers.specs.Same.{same};
-ghost use Rattle.recognisers.specs.Taking.{typed, isSpelled, capital, startsWith};
-ghost use Rattle.recognisers.specs.Inner.WordLength.{wordLength};
+ghost use Rattle.recognisers.specs.Taking.{typed, is_spelled, capital, starts_with};
+ghost use Rattle.recognisers.specs.Inner.WordLength.{word_length};
 ghost use Rattle.recognisers.specs.declared.Taken.TheVariants.{Bytes};
-ghost use Rattle.reserved.specs.Reserved.{isSelect, isUpdate, takesUsing, topLevelKind, aliasLength, topLevelToken, newlineToken, mayBeReserved, getReservedWordToken};
-ghost use Rattle.reserved.specs.Inner.Entries.{Entry, entries, findEntry, tokenFor};
+ghost use Rattle.reserved.specs.Reserved.{is_select, is_update, takes_using, top_level_kind, alias_length, top_level_token, newline_token, may_be_reserved, get_reserved_word_token};
+ghost use Rattle.reserved.specs.Inner.Entries.{Entry, entries, find_entry, token_for};
 
 use crate::TopLevel;
 use crate::tables::find_phrase;
@@ -17,7 +17,7 @@ use recognisers::{
 };
 
 fn is_select(last: TopLevel) -> bool
-    ensures { result ≡ isSelect last }
+    ensures { result ≡ is_select last }
 {
     match last {
         TopLevel::Select => true,
@@ -29,7 +29,7 @@ fn is_select(last: TopLevel) -> bool
 }
 
 fn is_update(last: TopLevel) -> bool
-    ensures { result ≡ isUpdate last }
+    ensures { result ≡ is_update last }
 {
     match last {
         TopLevel::Select => false,
@@ -42,7 +42,7 @@ fn is_update(last: TopLevel) -> bool
 
 // No USING of its own belongs to the last top-level token.
 fn lacks_using(last: TopLevel) -> bool
-    ensures { result ≡ not (takesUsing last) }
+    ensures { result ≡ not (takes_using last) }
 {
     match last {
         TopLevel::Select => true,
@@ -54,25 +54,25 @@ fn lacks_using(last: TopLevel) -> bool
 }
 
 fn is_except(value: &[u8], last: TopLevel) -> bool
-    ensures { result ≡ (same value.now (bytes "EXCEPT") && isSelect last) }
+    ensures { result ≡ (same value.now (bytes "EXCEPT") && is_select last) }
 {
     is_exactly(value, b"EXCEPT") && is_select(last)
 }
 
 fn is_set(value: &[u8], last: TopLevel) -> bool
-    ensures { result ≡ (same value.now (bytes "SET") && isUpdate last) }
+    ensures { result ≡ (same value.now (bytes "SET") && is_update last) }
 {
     is_exactly(value, b"SET") && is_update(last)
 }
 
 fn is_using(value: &[u8], last: TopLevel) -> bool
-    ensures { result ≡ (same value.now (bytes "USING") && not (takesUsing last)) }
+    ensures { result ≡ (same value.now (bytes "USING") && not (takes_using last)) }
 {
     is_exactly(value, b"USING") && lacks_using(last)
 }
 
 fn top_level_kind(value: &[u8], last: TopLevel) -> TokenKind
-    ensures { result ≡ topLevelKind last value.now }
+    ensures { result ≡ top_level_kind last value.now }
 {
     if is_except(value, last) {
         return TokenKind::Reserved;
@@ -87,13 +87,13 @@ fn top_level_kind(value: &[u8], last: TopLevel) -> TokenKind
 }
 
 fn has_short_alias(value: &[u8]) -> bool
-    ensures { result ≡ (isSpelled typed (bytes "CREATE") value.now || isSpelled typed (bytes "SELECT") value.now) }
+    ensures { result ≡ (is_spelled typed (bytes "CREATE") value.now || is_spelled typed (bytes "SELECT") value.now) }
 {
     is_spelled(value, b"CREATE") || is_spelled(value, b"SELECT")
 }
 
 fn alias_length(value: &[u8]) -> usize
-    ensures { result ≡ aliasLength value.now }
+    ensures { result ≡ alias_length value.now }
 {
     if has_short_alias(value) {
         return 6;
@@ -103,7 +103,7 @@ fn alias_length(value: &[u8]) -> usize
 
 fn top_level_token(rest: &[u8], n: usize, last: TopLevel) -> Recognised
     requires { n ≤ length rest.now }
-    ensures { result ≡ topLevelToken last rest.now (Bytes n) }
+    ensures { result ≡ top_level_token last rest.now (Bytes n) }
 {
     let value = &rest[..n];
     let kind = top_level_kind(value, last);
@@ -125,7 +125,7 @@ fn is_and(value: &[u8], after_between: bool) -> bool
 
 fn newline_token(rest: &[u8], n: usize, after_between: bool) -> Recognised
     requires { n ≤ length rest.now }
-    ensures { result ≡ newlineToken after_between rest.now (Bytes n) }
+    ensures { result ≡ newline_token after_between rest.now (Bytes n) }
 {
     if is_and(&rest[..n], after_between) {
         return token_of(TokenKind::Reserved, Taken::Bytes(n));
@@ -135,7 +135,7 @@ fn newline_token(rest: &[u8], n: usize, after_between: bool) -> Recognised
 
 fn token_for(rest: &[u8], group: u8, n: usize, after_between: bool, last: TopLevel) -> Recognised
     requires { n ≤ length rest.now }
-    ensures { result ≡ tokenFor after_between last rest.now (Entry group n) }
+    ensures { result ≡ token_for after_between last rest.now (Entry group n) }
 {
     match group {
         b'T' | b'D' => top_level_token(rest, n, last),
@@ -159,14 +159,14 @@ fn starts_with_letter(rest: &[u8]) -> bool
 // A letter or `$`.
 #[inline(always)]
 fn may_be_reserved(rest: &[u8]) -> bool
-    ensures { result ≡ mayBeReserved rest.now }
+    ensures { result ≡ may_be_reserved rest.now }
 {
     starts_with_letter(rest) || stands_at(rest, 0, b'$')
 }
 
 // A `$` without another behind it begins no phrase.
 fn is_lone_dollar(rest: &[u8]) -> bool
-    ensures { result ≡ (startsWith (byte "$") rest.now && not (startsWith (byte "$") (drop 1 rest.now))) }
+    ensures { result ≡ (starts_with (byte "$") rest.now && not (starts_with (byte "$") (drop 1 rest.now))) }
 {
     if stands_at(rest, 0, b'$') {
         return !stands_at(rest, 1, b'$');
@@ -176,8 +176,8 @@ fn is_lone_dollar(rest: &[u8]) -> bool
 
 #[inline(always)]
 fn reserved_token(rest: &[u8], word: usize, after_between: bool, last: TopLevel) -> Recognised
-    requires { word ≡ wordLength rest.now }
-    ensures { result ≡ tokenFor after_between last rest.now (findEntry entries rest.now) }
+    requires { word ≡ word_length rest.now }
+    ensures { result ≡ token_for after_between last rest.now (find_entry entries rest.now) }
 {
     if is_lone_dollar(rest) {
         return Recognised::Nothing;
@@ -199,8 +199,8 @@ pub fn get_reserved_word_token(
     after_between: bool,
     last: TopLevel,
 ) -> Recognised
-    requires { word ≡ wordLength rest.now }
-    ensures { result ≡ getReservedWordToken after_dot after_between last rest.now }
+    requires { word ≡ word_length rest.now }
+    ensures { result ≡ get_reserved_word_token after_dot after_between last rest.now }
 {
     if after_dot {
         return Recognised::Nothing;

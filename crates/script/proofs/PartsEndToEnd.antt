@@ -11,9 +11,9 @@ use lib.ListN.{length, take, drop, drop_of_length-le, take-append-drop}
 use lib.Seq.{drop-drop}
 use Rattle.tokenizer.specs.declared.Token.{Token}
 use Rattle.tokenizer.specs.Tokens.{tokens}
-use Rattle.script.specs.Settings.{cutterSettings}
-use Rattle.script.specs.Cuts.{isCut}
-use Rattle.script.specs.Parts.{Part, partsFrom, parts, laid}
+use Rattle.script.specs.Settings.{cutter_settings}
+use Rattle.script.specs.Cuts.{is_cut}
+use Rattle.script.specs.Parts.{Part, parts_from, parts, laid}
 use Rattle.script.proofs.Tiles.{Tiled, tiled}
 
 -- what holds of each part
@@ -21,9 +21,9 @@ abbrev pub EachPart : (Part → Type 0) → List Part → Type 0
 EachPart P [] = Unit {0}
 EachPart P (p ∷ ps) = P p × EachPart P ps
 
-pub map-part : (P Q : Part → Type 0) → ((p : Part) → P p → Q p) → (ps : List Part) → EachPart P ps → EachPart Q ps
-map-part P Q f [] h = tt
-map-part P Q f (p ∷ ps) h = (f p h.0, map-part P Q f ps h.1)
+pub map_part : (P Q : Part → Type 0) → ((p : Part) → P p → Q p) → (ps : List Part) → EachPart P ps → EachPart Q ps
+map_part P Q f [] h = tt
+map_part P Q f (p ∷ ps) h = (f p h.0, map_part P Q f ps h.1)
 
 -- a part that has a byte and lies inside the script
 pub record Inside (long : ℕ) (p : Part) : Type 0 where
@@ -36,43 +36,43 @@ Filling long from [] = from ≡ long
 Filling long from (p ∷ ps) = (p.start ≡ from) × Inside long p × Filling long (from + p.len) ps
 
 module _ (s : List ℕ) where
-  fills : (ts : List Token) (from at : ℕ) → Tiled (length s) at ts → from ≤ at → Filling (length s) from (partsFrom s from ts)
-  unfolding partsFrom
+  fills : (ts : List Token) (from at : ℕ) → Tiled (length s) at ts → from ≤ at → Filling (length s) from (parts_from s from ts)
+  unfolding parts_from
   fills [] from at h l = go (ltb from (length s)) refl
     where
-      go : (b : Bool) → ltb from (length s) ≡ b → Filling (length s) from (partsFrom s from [])
+      go : (b : Bool) → ltb from (length s) ≡ b → Filling (length s) from (parts_from s from [])
       go true e =
           let k = ltb-true from (length s) e in
           let z : from + (length s - from) ≡ length s = omega arith in
           rw e (refl, record { some = omega arith; inside = omega arith }, z)
       go false e = let k = ltb-false from (length s) e in rw e (let z : from ≡ length s = omega (arith, h) in z)
-  fills (t ∷ ts) from at h l = go (isCut s t) refl (fills ts (t.start + t.len) (at + t.len) h.1 (omega (arith, h.0.from))) (fills ts from (at + t.len) h.1 (omega (arith, l)))
+  fills (t ∷ ts) from at h l = go (is_cut s t) refl (fills ts (t.start + t.len) (at + t.len) h.1 (omega (arith, h.0.from))) (fills ts from (at + t.len) h.1 (omega (arith, l)))
     where
-      go : (b : Bool) → isCut s t ≡ b → Filling (length s) (t.start + t.len) (partsFrom s (t.start + t.len) ts) → Filling (length s) from (partsFrom s from ts) → Filling (length s) from (partsFrom s from (t ∷ ts))
+      go : (b : Bool) → is_cut s t ≡ b → Filling (length s) (t.start + t.len) (parts_from s (t.start + t.len) ts) → Filling (length s) from (parts_from s from ts) → Filling (length s) from (parts_from s from (t ∷ ts))
       go true e ih jh =
           let z : from + (t.start + t.len - from) ≡ t.start + t.len = omega (arith, h.0.from, l) in
           rw e (refl, record { some = omega (arith, h.0.from, h.0.some, l); inside = omega (arith, h.0.from, h.0.inside, l) }, rw z ih)
       go false e ih jh = rw e jh
 
-  parts-fill : Filling (length s) 0 (parts s)
+  parts_fill : Filling (length s) 0 (parts s)
   unfolding parts
-  parts-fill = fills (tokens cutterSettings s) 0 0 (tiled cutterSettings s) (omega arith)
+  parts_fill = fills (tokens cutter_settings s) 0 0 (tiled cutter_settings s) (omega arith)
 
-  laid-is : (ps : List Part) (from : ℕ) → Filling (length s) from ps → laid s ps ≡ drop from s
+  laid_is : (ps : List Part) (from : ℕ) → Filling (length s) from ps → laid s ps ≡ drop from s
   unfolding laid
-  laid-is [] from h = sym (drop_of_length-le s {i = from} (omega (arith, h)))
-  laid-is (p ∷ ps) from h =
-      rw (h.0, laid-is ps (from + p.len) h.2)
+  laid_is [] from h = sym (drop_of_length-le s {i = from} (omega (arith, h)))
+  laid_is (p ∷ ps) from h =
+      rw (h.0, laid_is ps (from + p.len) h.2)
       (ap (λ (l : List ℕ). take p.len (drop from s) ++ l) (sym (drop-drop p.len from s)) ∙ take-append-drop p.len (drop from s))
 
   -- laid end to end, they are the script
-  pub parts-end-to-end : laid s (parts s) ≡ s
-  parts-end-to-end = laid-is (parts s) 0 parts-fill
+  pub parts_end_to_end : laid s (parts s) ≡ s
+  parts_end_to_end = laid_is (parts s) 0 parts_fill
 
-  each-inside : (ps : List Part) (from : ℕ) → Filling (length s) from ps → EachPart (Inside (length s)) ps
-  each-inside [] from h = tt
-  each-inside (p ∷ ps) from h = (h.1, each-inside ps (from + p.len) h.2)
+  each_inside : (ps : List Part) (from : ℕ) → Filling (length s) from ps → EachPart (Inside (length s)) ps
+  each_inside [] from h = tt
+  each_inside (p ∷ ps) from h = (h.1, each_inside ps (from + p.len) h.2)
 
   -- none is empty, and all lie inside the script
-  pub parts-inside : EachPart (Inside (length s)) (parts s)
-  parts-inside = each-inside (parts s) 0 parts-fill
+  pub parts_inside : EachPart (Inside (length s)) (parts s)
+  parts_inside = each_inside (parts s) 0 parts_fill

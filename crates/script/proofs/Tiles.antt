@@ -13,10 +13,10 @@ use Rattle.calls.specs.declared.Settings.{Settings}
 use Rattle.tokenizer.specs.declared.Cursor.{Cursor}
 use Rattle.tokenizer.specs.declared.Token.{Token}
 use Rattle.tokenizer.specs.Memory.{start, remembered}
-use Rattle.tokenizer.specs.NextToken.{nextPiece}
-use Rattle.tokenizer.specs.Tokens.{tokenAt, tokens}
-use Rattle.tokenizer.proofs.EndToEnd.{Recognises, piece-recognised}
-use Rattle.tokenizer.proofs.Steps.{left, Moved, moved, past-end}
+use Rattle.tokenizer.specs.NextToken.{next_piece}
+use Rattle.tokenizer.specs.Tokens.{token_at, tokens}
+use Rattle.tokenizer.proofs.EndToEnd.{Recognises, piece_recognised}
+use Rattle.tokenizer.proofs.Steps.{left, Moved, moved, past_end}
 
 pub record Tile (long at : ℕ) (t : Token) : Type 0 where
   pub from : t.start ≡ at
@@ -30,16 +30,16 @@ Tiled long at (t ∷ ts) = Tile long at t × Tiled long (at + t.len) ts
 
 module _ (settings : Settings) (s : List ℕ) where
   ends : (c : Cursor) → length s ≤ c.at → c.at ≤ length s → Tiled (length s) c.at (left settings s c)
-  ends c h k = rw (drop_of_length-le s {i = c.at} h, past-end settings c.memory c.at 0) (let z : c.at ≡ length s = omega arith in z)
+  ends c h k = rw (drop_of_length-le s {i = c.at} h, past_end settings c.memory c.at 0) (let z : c.at ≡ length s = omega arith in z)
 
   abbrev From : ℕ → Type 0
   From fuel = (c : Cursor) → length s - c.at ≤ fuel → c.at ≤ length s → Tiled (length s) c.at (left settings s c)
 
-  from-cursor : (fuel : ℕ) → From fuel
-  from-cursor zero c h k = ends c (omega arith) k
-  from-cursor (suc fuel) c h k = go (drop c.at s) refl (from-cursor fuel)
+  from_cursor : (fuel : ℕ) → From fuel
+  from_cursor zero c h k = ends c (omega arith) k
+  from_cursor (suc fuel) c h k = go (drop c.at s) refl (from_cursor fuel)
     where
-      on : (p : Piece) (c' : Cursor) → Moved settings s c (tokenAt settings c.at p) c' → c'.at ≡ c.at + p.len → From fuel → Tiled (length s) c.at (left settings s c)
+      on : (p : Piece) (c' : Cursor) → Moved settings s c (token_at settings c.at p) c' → c'.at ≡ c.at + p.len → From fuel → Tiled (length s) c.at (left settings s c)
       on p c' m a ih =
           rw m.list (
             record { from = refl; some = omega (arith, m.on, a); inside = omega (arith, m.inside, a) },
@@ -48,9 +48,9 @@ module _ (settings : Settings) (s : List ℕ) where
 
       go : (rest : List ℕ) → drop c.at s ≡ rest → From fuel → Tiled (length s) c.at (left settings s c)
       go [] e ih = ends c (let n : length s - c.at ≡ 0 = sym (length-drop c.at s) ∙ ap length e in omega arith) k
-      go (b ∷ rest) e ih = found (nextPiece settings c.memory (drop c.at s)) refl (rw e (piece-recognised settings c.memory b rest))
+      go (b ∷ rest) e ih = found (next_piece settings c.memory (drop c.at s)) refl (rw e (piece_recognised settings c.memory b rest))
         where
-          found : (r : Recognised) → nextPiece settings c.memory (drop c.at s) ≡ r → Recognises r → Tiled (length s) c.at (left settings s c)
+          found : (r : Recognised) → next_piece settings c.memory (drop c.at s) ≡ r → Recognises r → Tiled (length s) c.at (left settings s c)
           found (R.Token p) q r =
               let n : length (drop c.at s) ≡ suc (length rest) = ap length e in
               on p (record { at = c.at + p.len; memory = remembered c.memory p.kind (take p.len (drop c.at s)) p.alias })
@@ -59,4 +59,4 @@ module _ (settings : Settings) (s : List ℕ) where
 
   pub tiled : Tiled (length s) 0 (tokens settings s)
   unfolding tokens
-  tiled = from-cursor (length s) (record { at = 0; memory = start }) (omega arith) (omega arith)
+  tiled = from_cursor (length s) (record { at = 0; memory = start }) (omega arith) (omega arith)

@@ -3,27 +3,27 @@ use Rattle.std.specs.Prelude.{ℕ, ◌/◌, cond, List, ltb, length}
 use Rattle.calls.specs.declared.Checked.{Checked}
 use Rattle.calls.specs.declared.Checked.TheVariants.{Accepted, Refused}
 use Rattle.calls.specs.declared.Refusal.TheVariants.{PartsFull}
-use Rattle.calls.specs.Checks.{checked, acceptedOr, toldNumber, toldDetail}
-use Rattle.calls.specs.Texts.{writtenOver}
-use Rattle.script.specs.Settings.{cutterSettings}
+use Rattle.calls.specs.Checks.{checked, accepted_or, told_number, told_detail}
+use Rattle.calls.specs.Texts.{written_over}
+use Rattle.script.specs.Settings.{cutter_settings}
 use Rattle.script.specs.Parts.{parts}
-use Rattle.script.specs.Places.{placeBytes, placesOf}
+use Rattle.script.specs.Places.{place_bytes, places_of}
 
 -- refused where fewer whole places are lent than there are parts, in so many bytes
-unfoldable pub roomChecked : List ℕ → ℕ → Checked
-roomChecked s room = cond (ltb (room / placeBytes) (length (parts s))) (Refused (PartsFull (length (parts s)))) (Accepted cutterSettings)
+unfoldable pub room_checked : List ℕ → ℕ → Checked
+room_checked s room = cond (ltb (room / place_bytes) (length (parts s))) (Refused (PartsFull (length (parts s)))) (Accepted cutter_settings)
 
 -- the same once the script is accepted
-unfoldable pub cutChecked : List ℕ → ℕ → Checked
-cutChecked s room = acceptedOr (λ settings. roomChecked s room) Refused (checked 0 0 0 s)
+unfoldable pub cut_checked : List ℕ → ℕ → Checked
+cut_checked s room = accepted_or (λ settings. room_checked s room) Refused (checked 0 0 0 s)
 
 -- the number, and the detail beside it, by either
-abbrev pub cutNumber : Checked → ℕ
-cutNumber = toldNumber
+abbrev pub cut_number : Checked → ℕ
+cut_number = told_number
 
-abbrev pub cutDetail : List ℕ → Checked → ℕ
-cutDetail s = toldDetail (length (parts s))
+abbrev pub cut_detail : List ℕ → Checked → ℕ
+cut_detail s = told_detail (length (parts s))
 
 -- all places afterwards: a refusal writes none
-abbrev pub cutPlaces : List ℕ → List ℕ → Checked → List ℕ
-cutPlaces s places = acceptedOr (λ settings. writtenOver (placesOf (parts s)) places) (λ refusal. places)
+abbrev pub cut_places : List ℕ → List ℕ → Checked → List ℕ
+cut_places s places = accepted_or (λ settings. written_over (places_of (parts s)) places) (λ refusal. places)

@@ -4,12 +4,12 @@ use Rattle.calls.specs.LittleEndian.{le32}
 use Rattle.script.specs.Parts.{Part}
 
 -- the bytes of a place
-abbrev pub placeBytes : ℕ
-placeBytes = 8
+abbrev pub place_bytes : ℕ
+place_bytes = 8
 
-unfoldable pub placeOf : Part → List ℕ
-placeOf p = le32 p.start ++ le32 p.len
+unfoldable pub place_of : Part → List ℕ
+place_of p = le32 p.start ++ le32 p.len
 
-unfoldable pub placesOf : List Part → List ℕ
-placesOf [] = []
-placesOf (p ∷ ps) = placeOf p ++ placesOf ps
+unfoldable pub places_of : List Part → List ℕ
+places_of [] = []
+places_of (p ∷ ps) = place_of p ++ places_of ps

@@ -3,5 +3,5 @@ use Rattle.std.specs.Prelude.{false}
 use Rattle.recognisers.specs.declared.Dialect.TheVariants.{Generic}
 use Rattle.calls.specs.declared.Settings.{Settings}
 
-abbrev pub cutterSettings : Settings
-cutterSettings = record { dialect = Generic; joins = false; named = false }
+abbrev pub cutter_settings : Settings
+cutter_settings = record { dialect = Generic; joins = false; named = false }

@@ -1,9 +1,9 @@
 // The parts of a whole script: how many there are, and their places.
 ghost use Rattle.std.specs.Prelude.{◌≡◌, ◌≤◌, length};
-ghost use Rattle.calls.specs.Texts.{writtenOver};
-ghost use Rattle.script.specs.Settings.{cutterSettings};
+ghost use Rattle.calls.specs.Texts.{written_over};
+ghost use Rattle.script.specs.Settings.{cutter_settings};
 ghost use Rattle.script.specs.Parts.{parts};
-ghost use Rattle.script.specs.Places.{placesOf};
+ghost use Rattle.script.specs.Places.{places_of};
 
 use crate::ending::{ended_count, start_past};
 use crate::places::{PLACE_BYTES, put_ended};
@@ -12,7 +12,7 @@ use recognisers::{Dialect, no_hints};
 use tokenizer::{Step, at_start, next_step};
 
 pub fn cutter_settings() -> Settings
-    ensures { result ≡ cutterSettings }
+    ensures { result ≡ cutter_settings }
 {
     Settings {
         dialect: Dialect::Generic,
@@ -43,9 +43,9 @@ pub fn count_parts(script: &[u8]) -> usize
 
 // How many places were written.
 pub fn write_parts(script: &[u8], places: &mut [u8]) -> usize
-    requires { length (placesOf (parts script.now)) ≤ length places.old }
+    requires { length (places_of (parts script.now)) ≤ length places.old }
     ensures value { result ≡ length (parts script.now) }
-    ensures places_after { places.new ≡ writtenOver (placesOf (parts script.now)) places.old }
+    ensures places_after { places.new ≡ written_over (places_of (parts script.now)) places.old }
 {
     let settings = cutter_settings();
     let mut at = 0;

@@ -2,8 +2,8 @@
 ghost use Rattle.std.specs.Prelude.{◌≡◌, ◌+◌, ◌≤◌, length};
 ghost use Rattle.std.proofs.lemmas.List.Edits.{sets};
 ghost use Rattle.script.specs.Parts.{between};
-ghost use Rattle.script.specs.Places.{placeBytes, placeOf, placesOf};
-ghost use Rattle.script.specs.Inner.Ended.{endedAt};
+ghost use Rattle.script.specs.Places.{place_bytes, place_of, places_of};
+ghost use Rattle.script.specs.Inner.Ended.{ended_at};
 
 use crate::ending::ends_part;
 use calls::put_le32;
@@ -13,8 +13,8 @@ pub const PLACE_BYTES: usize = 8;
 
 fn put_place(places: &mut [u8], at: usize, from: usize, to: usize)
     requires order { from ≤ to }
-    requires room { at + placeBytes ≤ length places.old }
-    ensures { places.new ≡ sets places.old at (placeOf (between from to)) }
+    requires room { at + place_bytes ≤ length places.old }
+    ensures { places.new ≡ sets places.old at (place_of (between from to)) }
 {
     put_le32(places, at, from as u64);
     put_le32(places, at + 4, (to - from) as u64);
@@ -24,9 +24,9 @@ fn put_place(places: &mut [u8], at: usize, from: usize, to: usize)
 pub fn put_ended(script: &[u8], from: usize, token: Token, places: &mut [u8], at: usize) -> usize
     requires token_in_bounds { token.start + token.len ≤ length script.now }
     requires order { from ≤ token.start + token.len }
-    requires room { at + length (placesOf (endedAt script.now from token)) ≤ length places.old }
-    ensures value { result ≡ at + length (placesOf (endedAt script.now from token)) }
-    ensures places_after { places.new ≡ sets places.old at (placesOf (endedAt script.now from token)) }
+    requires room { at + length (places_of (ended_at script.now from token)) ≤ length places.old }
+    ensures value { result ≡ at + length (places_of (ended_at script.now from token)) }
+    ensures places_after { places.new ≡ sets places.old at (places_of (ended_at script.now from token)) }
 {
     if ends_part(script, token) {
         put_place(places, at, from, token.start + token.len);

@@ -14,31 +14,31 @@ use Rattle.calls.specs.Checks.{checked}
 use Rattle.tokenizer.specs.Memory.{start}
 use Rattle.tight.specs.TightText.{tight}
 use Rattle.tight.specs.Agree.{reading, Agree}
-use Rattle.tight.proofs.TightReading.{render, items-again}
-use Rattle.tight.proofs.AgreeByItems.{agree-items, items-agree}
-use Rattle.tight.proofs.ReadingItems.{reading-is, items}
-use Rattle.tight.proofs.TightByItems.{tight-is}
-use Rattle.tight.proofs.TightAccepted.{tight-accepted}
+use Rattle.tight.proofs.TightReading.{render, items_again}
+use Rattle.tight.proofs.AgreeByItems.{agree_items, items_agree}
+use Rattle.tight.proofs.ReadingItems.{reading_is, items}
+use Rattle.tight.proofs.TightByItems.{tight_is}
+use Rattle.tight.proofs.TightAccepted.{tight_accepted}
 
 module _ (settings : Settings) where
-  items-of-tight : (s : List ℕ) → items (reading settings s) ≡ items (reading settings (tight settings s))
-  items-of-tight s = rw (reading-is settings (tight settings s), tight-is settings s, reading-is settings s) (sym (items-again settings start s))
+  items_of_tight : (s : List ℕ) → items (reading settings s) ≡ items (reading settings (tight settings s))
+  items_of_tight s = rw (reading_is settings (tight settings s), tight_is settings s, reading_is settings s) (sym (items_again settings start s))
 
-  agree-tight : (s t : List ℕ) → Agree settings s t → tight settings s ≡ tight settings t
-  agree-tight s t a = tight-is settings s ∙ ap render (agree-items settings s t a) ∙ sym (tight-is settings t)
+  agree_tight : (s t : List ℕ) → Agree settings s t → tight settings s ≡ tight settings t
+  agree_tight s t a = tight_is settings s ∙ ap render (agree_items settings s t a) ∙ sym (tight_is settings t)
 
-  tight-agree : (s t : List ℕ) → tight settings s ≡ tight settings t → Agree settings s t
-  tight-agree s t e = items-agree settings s t (items-of-tight s ∙ ap (λ (u : List ℕ). items (reading settings u)) e ∙ sym (items-of-tight t))
+  tight_agree : (s t : List ℕ) → tight settings s ≡ tight settings t → Agree settings s t
+  tight_agree s t e = items_agree settings s t (items_of_tight s ∙ ap (λ (u : List ℕ). items (reading settings u)) e ∙ sym (items_of_tight t))
 
 module _ (dialect joins named : ℕ) (settings : Settings) where
-  pub third-demand : (s t : List ℕ) → checked dialect joins named s ≡ Accepted settings → checked dialect joins named t ≡ Accepted settings
+  pub third_demand : (s t : List ℕ) → checked dialect joins named s ≡ Accepted settings → checked dialect joins named t ≡ Accepted settings
       → (tight settings s ≡ tight settings t) ↔ Agree settings s t
-  third-demand s t a b = (tight-agree settings s t, agree-tight settings s t)
+  third_demand s t a b = (tight_agree settings s t, agree_tight settings s t)
 
-  pub own-search : (s : List ℕ) → checked dialect joins named s ≡ Accepted settings
+  pub own_search : (s : List ℕ) → checked dialect joins named s ≡ Accepted settings
       → (checked dialect joins named (tight settings s) ≡ Accepted settings) × Agree settings s (tight settings s)
-  own-search s a = (tight-accepted dialect joins named settings s a, items-agree settings s (tight settings s) (items-of-tight settings s))
+  own_search s a = (tight_accepted dialect joins named settings s a, items_agree settings s (tight settings s) (items_of_tight settings s))
 
   -- tightening twice gives what once gave
   pub twice : (s : List ℕ) → checked dialect joins named s ≡ Accepted settings → tight settings (tight settings s) ≡ tight settings s
-  twice s a = sym (agree-tight settings s (tight settings s) (own-search s a).1)
+  twice s a = sym (agree_tight settings s (tight settings s) (own_search s a).1)

@@ -1,7 +1,7 @@
 // Gaps, and what they become.
 ghost use Rattle.std.specs.Prelude.{◌≡◌, ◌+◌, ◌≤◌, length};
-ghost use Rattle.tight.specs.TightText.{isGap, becomes, atEnd, gapBytes};
-ghost use Rattle.tight.specs.Inner.Added.{outside, spacingPast};
+ghost use Rattle.tight.specs.TightText.{is_gap, becomes, at_end, gap_bytes};
+ghost use Rattle.tight.specs.Inner.Added.{outside, spacing_past};
 
 use crate::returning::gap_after;
 use crate::{Gap, Place, Spacing};
@@ -9,7 +9,7 @@ use recognisers::{TokenKind, is_kind};
 use tokenizer::Token;
 
 pub fn is_gap(token: Token) -> bool
-    ensures { result ≡ isGap token }
+    ensures { result ≡ is_gap token }
 {
     let kind = token.kind;
     is_kind(kind, TokenKind::Whitespace)
@@ -25,7 +25,7 @@ fn gap_becomes(here: Place, gap: &[u8]) -> Gap
 }
 
 pub fn gap_at_end(gap: Gap) -> Gap
-    ensures { result ≡ atEnd gap }
+    ensures { result ≡ at_end gap }
 {
     match gap {
         Gap::Nothing => Gap::Nothing,
@@ -36,7 +36,7 @@ pub fn gap_at_end(gap: Gap) -> Gap
 }
 
 pub fn gap_length(gap: Gap) -> usize
-    ensures { result ≡ length (gapBytes gap) }
+    ensures { result ≡ length (gap_bytes gap) }
 {
     match gap {
         Gap::Nothing => 0,
@@ -58,7 +58,7 @@ pub fn before_first() -> Spacing
 
 pub fn spacing_past(statement: &[u8], spacing: Spacing, token: Token) -> Spacing
     requires { token.start + token.len ≤ length statement.now }
-    ensures { result ≡ spacingPast statement.now spacing token }
+    ensures { result ≡ spacing_past statement.now spacing token }
 {
     let here = spacing.here;
     let kind = token.kind;

@@ -1,7 +1,7 @@
 // The two sorts of a gap, and what a gap becomes by its sort.
 ghost use Rattle.std.specs.Prelude.{◌≡◌};
 ghost use Rattle.tight.specs.Returning.{returns};
-ghost use Rattle.tight.specs.TightText.{gapAfter};
+ghost use Rattle.tight.specs.TightText.{gap_after};
 
 use crate::Gap;
 use recognisers::{TokenKind, is_kind, stands_at};
@@ -28,7 +28,7 @@ fn is_returning(gap: &[u8]) -> bool
 }
 
 pub fn gap_after(kind: TokenKind, gap: &[u8]) -> Gap
-    ensures { result ≡ gapAfter kind gap.now }
+    ensures { result ≡ gap_after kind gap.now }
 {
     if is_kind(kind, TokenKind::LineComment) {
         return Gap::LineFeed;

@@ -1,6 +1,6 @@
 // The tight text of a whole statement: its length, and the text itself.
 ghost use Rattle.std.specs.Prelude.{◌≡◌, ◌≤◌, length};
-ghost use Rattle.calls.specs.Texts.{writtenOver};
+ghost use Rattle.calls.specs.Texts.{written_over};
 ghost use Rattle.tight.specs.TightText.{tight};
 
 use crate::adding::{added_length, put_added, put_gap};
@@ -37,7 +37,7 @@ pub fn tight_length(statement: &[u8], settings: Settings) -> usize
 pub fn write_tight(statement: &[u8], settings: Settings, output: &mut [u8]) -> usize
     requires { length (tight settings statement.now) ≤ length output.old }
     ensures value { result ≡ length (tight settings statement.now) }
-    ensures output_after { output.new ≡ writtenOver (tight settings statement.now) output.old }
+    ensures output_after { output.new ≡ written_over (tight settings statement.now) output.old }
 {
     let mut at = 0;
     let mut spacing = before_first();

@@ -1,16 +1,16 @@
 // `tighten`: the tight text of a statement, into an output that the caller lends.
 ghost use Rattle.std.specs.Prelude.{◌≡◌, length};
-ghost use Rattle.calls.specs.Texts.{textAnswer, textAfter};
+ghost use Rattle.calls.specs.Texts.{text_answer, text_after};
 ghost use Rattle.tight.specs.TightText.{tight};
-ghost use Rattle.tight.specs.Answers.{tightenAnswer, tightenOutput};
+ghost use Rattle.tight.specs.Answers.{tighten_answer, tighten_output};
 
 use crate::text::{tight_length, write_tight};
 use calls::{Checked, Refusal, Settings, TextAnswer, check};
 
 // Measures first: where the output is full, nothing may be written.
 fn measure_then_write(statement: &[u8], settings: Settings, output: &mut [u8]) -> TextAnswer
-    ensures value { result ≡ textAnswer (tight settings statement.now) (length output.old) }
-    ensures output_after { output.new ≡ textAfter (tight settings statement.now) output.old }
+    ensures value { result ≡ text_answer (tight settings statement.now) (length output.old) }
+    ensures output_after { output.new ≡ text_after (tight settings statement.now) output.old }
 {
     let needed = tight_length(statement, settings);
     if output.len() < needed {
@@ -21,8 +21,8 @@ fn measure_then_write(statement: &[u8], settings: Settings, output: &mut [u8]) -
 
 // A tight text is no longer than its statement: with that much room one pass is enough.
 fn write_output(statement: &[u8], settings: Settings, output: &mut [u8]) -> TextAnswer
-    ensures value { result ≡ textAnswer (tight settings statement.now) (length output.old) }
-    ensures output_after { output.new ≡ textAfter (tight settings statement.now) output.old }
+    ensures value { result ≡ text_answer (tight settings statement.now) (length output.old) }
+    ensures output_after { output.new ≡ text_after (tight settings statement.now) output.old }
 {
     if output.len() < statement.len() {
         return measure_then_write(statement, settings, output);
@@ -37,8 +37,8 @@ pub fn tighten(
     named: u64,
     output: &mut [u8],
 ) -> TextAnswer
-    ensures value { result ≡ tightenAnswer statement.now dialect joins named (length output.old) }
-    ensures output_after { output.new ≡ tightenOutput statement.now dialect joins named output.old }
+    ensures value { result ≡ tighten_answer statement.now dialect joins named (length output.old) }
+    ensures output_after { output.new ≡ tighten_output statement.now dialect joins named output.old }
 {
     match check(statement, dialect, joins, named) {
         Checked::Accepted(settings) => write_output(statement, settings, output),

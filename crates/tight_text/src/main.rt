@@ -4,7 +4,7 @@
 
 ghost use Rattle.std.specs.Prelude.{IfSome, OnOk, length};
 ghost use Rattle.std.specs.Io.KnownBytes.{Appends};
-ghost use Rattle.tight_text.specs.Printed.{tightPrinted};
+ghost use Rattle.tight_text.specs.Printed.{tight_printed};
 
 use console::{print_answer, read_text, text_space};
 use std::io;
@@ -12,7 +12,7 @@ use std::io::{BufWriter, Read, Write};
 use tight::tighten;
 
 fn print_tight<W: Write>(output: &mut W, statement: &[u8], space: &mut [u8]) -> io::Result<()>
-    ensures { OnOk result (Appends (W.contents output.old) (W.contents output.new) (tightPrinted statement.now (length space.old))) }
+    ensures { OnOk result (Appends (W.contents output.old) (W.contents output.new) (tight_printed statement.now (length space.old))) }
 {
     let answer = tighten(statement, 0, 0, 0, space);
     print_answer(output, answer, space)
@@ -21,7 +21,7 @@ fn print_tight<W: Write>(output: &mut W, statement: &[u8], space: &mut [u8]) -> 
 // Of a longer statement than a call accepts enough is read that it is refused as the whole is.
 fn answer<R: Read, W: Write>(input: &mut R, output: &mut W) -> io::Result<()>
     ensures { OnOk result (IfSome (R.remaining input.old) (λ statement.
-        Appends (W.contents output.old) (W.contents output.new) (tightPrinted statement 65537))) }
+        Appends (W.contents output.old) (W.contents output.new) (tight_printed statement 65537))) }
 {
     let mut statement = text_space();
     // A tight text is no longer than its statement.

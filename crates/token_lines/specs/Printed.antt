@@ -1,29 +1,29 @@
 -- What is printed of tokens: their count, and a line for each with the eight fields of its record.
 use Rattle.std.specs.Prelude.{ℕ, List, [], ◌∷◌, ◌++◌, length, codes, decimal}
-use Rattle.recognisers.specs.Kinds.{kindNumber}
+use Rattle.recognisers.specs.Kinds.{kind_number}
 use Rattle.tokenizer.specs.declared.KeyWords.{KeyWords}
 use Rattle.tokenizer.specs.declared.Token.{Token}
-use Rattle.tokenizer.specs.Levels.{levelPast}
-use Rattle.tokenizer.specs.Records.{keyWords}
+use Rattle.tokenizer.specs.Levels.{level_past}
+use Rattle.tokenizer.specs.Records.{key_words}
 
 -- a field behind another
-abbrev pub nextField : ℕ → List ℕ
-nextField n = codes " " ++ decimal n
+abbrev pub next_field : ℕ → List ℕ
+next_field n = codes " " ++ decimal n
 
-abbrev pub keyFields : KeyWords → List ℕ
-keyFields key = nextField key.kind ++ nextField key.a ++ nextField key.b
+abbrev pub key_fields : KeyWords → List ℕ
+key_fields key = next_field key.kind ++ next_field key.a ++ next_field key.b
 
-abbrev pub placeFields : Token → List ℕ
-placeFields t = decimal (kindNumber t.kind) ++ nextField t.start ++ nextField t.len ++ nextField t.alias
+abbrev pub place_fields : Token → List ℕ
+place_fields t = decimal (kind_number t.kind) ++ next_field t.start ++ next_field t.len ++ next_field t.alias
 
 -- a token's line, at a level
-unfoldable pub tokenLine : ℕ → Token → List ℕ
-tokenLine level t = placeFields t ++ keyFields (keyWords t.key) ++ nextField level ++ codes "\n"
+unfoldable pub token_line : ℕ → Token → List ℕ
+token_line level t = place_fields t ++ key_fields (key_words t.key) ++ next_field level ++ codes "\n"
 
 -- the lines of tokens, from a level on
-unfoldable pub linesFrom : ℕ → List Token → List ℕ
-linesFrom level [] = []
-linesFrom level (t ∷ ts) = tokenLine level t ++ linesFrom (levelPast level t.kind) ts
+unfoldable pub lines_from : ℕ → List Token → List ℕ
+lines_from level [] = []
+lines_from level (t ∷ ts) = token_line level t ++ lines_from (level_past level t.kind) ts
 
 abbrev pub listed : List Token → List ℕ
-listed ts = codes "tokens " ++ decimal (length ts) ++ codes "\n" ++ linesFrom 0 ts
+listed ts = codes "tokens " ++ decimal (length ts) ++ codes "\n" ++ lines_from 0 ts

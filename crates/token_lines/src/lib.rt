@@ -4,7 +4,7 @@
 ghost use Rattle.std.specs.Prelude.{OnOk};
 ghost use Rattle.std.specs.Io.KnownBytes.{Appends};
 ghost use Rattle.tokenizer.specs.Tokens.{tokens};
-ghost use Rattle.token_lines.specs.Printed.{keyFields, placeFields, tokenLine, linesFrom, listed};
+ghost use Rattle.token_lines.specs.Printed.{key_fields, place_fields, token_line, lines_from, listed};
 
 use calls::Settings;
 use console::{print, print_next, print_number};
@@ -13,7 +13,7 @@ use std::io::Write;
 use tokenizer::{KeyWords, Step, Token};
 
 fn print_key<W: Write>(output: &mut W, key: KeyWords) -> io::Result<()>
-    ensures { OnOk result (Appends (W.contents output.old) (W.contents output.new) (keyFields key)) }
+    ensures { OnOk result (Appends (W.contents output.old) (W.contents output.new) (key_fields key)) }
 {
     print_next(output, key.kind)?;
     print_next(output, key.a)?;
@@ -21,7 +21,7 @@ fn print_key<W: Write>(output: &mut W, key: KeyWords) -> io::Result<()>
 }
 
 fn print_place<W: Write>(output: &mut W, token: Token) -> io::Result<()>
-    ensures { OnOk result (Appends (W.contents output.old) (W.contents output.new) (placeFields token)) }
+    ensures { OnOk result (Appends (W.contents output.old) (W.contents output.new) (place_fields token)) }
 {
     print_number(output, recognisers::kind_number(token.kind))?;
     print_next(output, token.start as u64)?;
@@ -30,7 +30,7 @@ fn print_place<W: Write>(output: &mut W, token: Token) -> io::Result<()>
 }
 
 fn print_token<W: Write>(output: &mut W, token: Token, level: usize) -> io::Result<()>
-    ensures { OnOk result (Appends (W.contents output.old) (W.contents output.new) (tokenLine level token)) }
+    ensures { OnOk result (Appends (W.contents output.old) (W.contents output.new) (token_line level token)) }
 {
     print_place(output, token)?;
     print_key(output, tokenizer::key_words(token.key))?;
@@ -39,7 +39,7 @@ fn print_token<W: Write>(output: &mut W, token: Token, level: usize) -> io::Resu
 }
 
 fn print_tokens<W: Write>(output: &mut W, statement: &[u8], settings: Settings) -> io::Result<()>
-    ensures { OnOk result (Appends (W.contents output.old) (W.contents output.new) (linesFrom 0 (tokens settings statement.now))) }
+    ensures { OnOk result (Appends (W.contents output.old) (W.contents output.new) (lines_from 0 (tokens settings statement.now))) }
 {
     let mut level = 0;
     let mut hints = recognisers::no_hints();

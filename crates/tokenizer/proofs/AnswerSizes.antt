@@ -11,16 +11,16 @@ use Rattle.calls.specs.declared.Checked.{Checked}
 use Rattle.calls.specs.declared.Checked.TheVariants as C
 use Rattle.calls.specs.declared.Refusal.TheVariants.{TableFull}
 use Rattle.calls.specs.declared.Settings.{Settings}
-use Rattle.calls.specs.Checks.{longest, checked, acceptedOr}
-use Rattle.calls.proofs.Checks.{accepted-short}
+use Rattle.calls.specs.Checks.{longest, checked, accepted_or}
+use Rattle.calls.proofs.Checks.{accepted_short}
 use Rattle.tokenizer.specs.declared.TableAnswer.{TableAnswer}
 use Rattle.tokenizer.specs.declared.TableAnswer.TheVariants.{Written, Refused}
-use Rattle.tokenizer.specs.Answers.{allWritten, tableAnswer, tokenizeAnswer}
-use Rattle.tokenizer.specs.EscapedQuotes.{escapedIn, totals}
-use Rattle.tokenizer.specs.Records.{recordBytes}
+use Rattle.tokenizer.specs.Answers.{all_written, table_answer, tokenize_answer}
+use Rattle.tokenizer.specs.EscapedQuotes.{escaped_in, totals}
+use Rattle.tokenizer.specs.Records.{record_bytes}
 use Rattle.tokenizer.specs.Tokens.{tokens}
-use Rattle.tokenizer.proofs.EndToEnd.{tokens-short}
-use Rattle.tokenizer.proofs.EscapedTotals.{few-escaped}
+use Rattle.tokenizer.proofs.EndToEnd.{tokens_short}
+use Rattle.tokenizer.proofs.EscapedTotals.{few_escaped}
 
 -- no more tokens than bytes, and two bytes for each escaped quote
 abbrev pub Small : TableAnswer → Type 0
@@ -28,18 +28,18 @@ Small (Written n escaped) = (n ≤ longest) × (escaped * 2 ≤ longest)
 Small (Refused refusal) = Unit {0}
 
 module _ (s : List ℕ) (dialect joins named room : ℕ) where
-  written-small : (settings : Settings) → length s ≤ longest → Small (tableAnswer settings s room)
-  unfolding tableAnswer
-  written-small settings l = go (ltb (room / recordBytes) (length (tokens settings s)))
+  written_small : (settings : Settings) → length s ≤ longest → Small (table_answer settings s room)
+  unfolding table_answer
+  written_small settings l = go (ltb (room / record_bytes) (length (tokens settings s)))
     where
-      go : (t : Bool) → Small (cond t (Refused (TableFull (length (tokens settings s)))) (allWritten (totals (tokens settings s))))
+      go : (t : Bool) → Small (cond t (Refused (TableFull (length (tokens settings s)))) (all_written (totals (tokens settings s))))
       go true = tt
-      go false = let a = tokens-short settings s in let b = few-escaped settings s in (omega (arith, a, l), omega (arith, b, l))
+      go false = let a = tokens_short settings s in let b = few_escaped settings s in (omega (arith, a, l), omega (arith, b, l))
 
-  pub answer-small : Small (tokenizeAnswer s dialect joins named room)
-  unfolding tokenizeAnswer
-  answer-small = go (checked dialect joins named s) refl
+  pub answer_small : Small (tokenize_answer s dialect joins named room)
+  unfolding tokenize_answer
+  answer_small = go (checked dialect joins named s) refl
     where
-      go : (c : Checked) → checked dialect joins named s ≡ c → Small (acceptedOr (λ settings. tableAnswer settings s room) Refused c)
-      go (C.Accepted settings) e = written-small settings (accepted-short dialect joins named s settings e)
+      go : (c : Checked) → checked dialect joins named s ≡ c → Small (accepted_or (λ settings. table_answer settings s room) Refused c)
+      go (C.Accepted settings) e = written_small settings (accepted_short dialect joins named s settings e)
       go (C.Refused refusal) e = tt

@@ -13,10 +13,10 @@ use Rattle.tokenizer.specs.declared.Memory.{Memory}
 use Rattle.calls.specs.declared.Settings.{Settings}
 use Rattle.tokenizer.specs.declared.Token.{Token}
 use Rattle.tokenizer.specs.Memory.{start, remembered}
-use Rattle.tokenizer.specs.NextToken.{nextPiece}
-use Rattle.tokenizer.specs.Tokens.{tokenAt, tokens}
-use Rattle.tokenizer.proofs.Steps.{left, Moved, moved, past-end}
-use Rattle.tokenizer.proofs.EndToEnd.{Recognises, piece-recognised}
+use Rattle.tokenizer.specs.NextToken.{next_piece}
+use Rattle.tokenizer.specs.Tokens.{token_at, tokens}
+use Rattle.tokenizer.proofs.Steps.{left, Moved, moved, past_end}
+use Rattle.tokenizer.proofs.EndToEnd.{Recognises, piece_recognised}
 
 abbrev pub Each : (Token → Type 0) → List Token → Type 0
 Each P [] = Unit {0}
@@ -24,20 +24,20 @@ Each P (t ∷ ts) = P t × Each P ts
 
 -- Q holds of the places where tokens start
 module _ (settings : Settings) (s : List ℕ) (P : Token → Type 0) (Q : ℕ → Type 0)
-    (one : (memory : Memory) (at : ℕ) (p : Piece) → at < length s → Q at → nextPiece settings memory (drop at s) ≡ R.Token p → P (tokenAt settings at p) × Q (at + p.len)) where
-  from-cursor : (fuel : ℕ) (c : Cursor) → length s - c.at ≤ fuel → Q c.at → Each P (left settings s c)
-  from-cursor zero c h q = rw (drop_of_length-le s {i = c.at} (omega arith), past-end settings c.memory c.at 0) tt
-  from-cursor (suc fuel) c h q = go (drop c.at s) refl (λ d. from-cursor fuel d)
+    (one : (memory : Memory) (at : ℕ) (p : Piece) → at < length s → Q at → next_piece settings memory (drop at s) ≡ R.Token p → P (token_at settings at p) × Q (at + p.len)) where
+  from_cursor : (fuel : ℕ) (c : Cursor) → length s - c.at ≤ fuel → Q c.at → Each P (left settings s c)
+  from_cursor zero c h q = rw (drop_of_length-le s {i = c.at} (omega arith), past_end settings c.memory c.at 0) tt
+  from_cursor (suc fuel) c h q = go (drop c.at s) refl (λ d. from_cursor fuel d)
     where
-      on : (p : Piece) (c' : Cursor) → Moved settings s c (tokenAt settings c.at p) c' → c'.at ≡ c.at + p.len → P (tokenAt settings c.at p) × Q (c.at + p.len)
+      on : (p : Piece) (c' : Cursor) → Moved settings s c (token_at settings c.at p) c' → c'.at ≡ c.at + p.len → P (token_at settings c.at p) × Q (c.at + p.len)
           → ((d : Cursor) → length s - d.at ≤ fuel → Q d.at → Each P (left settings s d)) → Each P (left settings s c)
       on p c' m a both ih = rw m.list (both.0, ih c' (omega (arith, h, m.on, m.inside)) (rw a both.1))
 
       go : (rest : List ℕ) → drop c.at s ≡ rest → ((d : Cursor) → length s - d.at ≤ fuel → Q d.at → Each P (left settings s d)) → Each P (left settings s c)
-      go [] e ih = rw (e, past-end settings c.memory c.at 0) tt
-      go (b ∷ rest) e ih = found (nextPiece settings c.memory (drop c.at s)) refl (rw e (piece-recognised settings c.memory b rest))
+      go [] e ih = rw (e, past_end settings c.memory c.at 0) tt
+      go (b ∷ rest) e ih = found (next_piece settings c.memory (drop c.at s)) refl (rw e (piece_recognised settings c.memory b rest))
         where
-          found : (r : Recognised) → nextPiece settings c.memory (drop c.at s) ≡ r → Recognises r → Each P (left settings s c)
+          found : (r : Recognised) → next_piece settings c.memory (drop c.at s) ≡ r → Recognises r → Each P (left settings s c)
           found (R.Token p) k h =
               let n : length (drop c.at s) ≡ suc (length rest) = ap length e in
               let l : c.at < length s = omega (arith, n, length-drop c.at s) in
@@ -45,6 +45,6 @@ module _ (settings : Settings) (s : List ℕ) (P : Token → Type 0) (Q : ℕ �
               (moved settings s c p k l) refl (one c.memory c.at p l q k) ih
           found R.Nothing k h = absurd h
 
-  pub each-token : Q 0 → Each P (tokens settings s)
+  pub each_token : Q 0 → Each P (tokens settings s)
   unfolding tokens
-  each-token q = from-cursor (length s) (record { at = 0; memory = start }) (omega arith) q
+  each_token q = from_cursor (length s) (record { at = 0; memory = start }) (omega arith) q

@@ -14,15 +14,15 @@ use Rattle.tokenizer.specs.declared.Cursor.{Cursor}
 use Rattle.tokenizer.specs.declared.Memory.{Memory}
 use Rattle.tokenizer.specs.declared.Token.{Token}
 use Rattle.tokenizer.specs.declared.Totals.{Totals}
-use Rattle.tokenizer.specs.EscapedQuotes.{escapedIn, totals}
-use Rattle.tokenizer.specs.NextToken.{nextPiece}
-use Rattle.tokenizer.specs.Records.{recordBytes, recordsOf}
-use Rattle.tokenizer.specs.Tokens.{tokenAt, tokens}
+use Rattle.tokenizer.specs.EscapedQuotes.{escaped_in, totals}
+use Rattle.tokenizer.specs.NextToken.{next_piece}
+use Rattle.tokenizer.specs.Records.{record_bytes, records_of}
+use Rattle.tokenizer.specs.Tokens.{token_at, tokens}
 use Rattle.tokenizer.specs.Values.{value, values}
-use Rattle.tokenizer.proofs.EachToken.{Each, each-token}
-use Rattle.tokenizer.proofs.EndToEnd.{end-to-end}
-use Rattle.tokenizer.proofs.NextPieceSizes.{piece-sized}
-use Rattle.tokenizer.proofs.RecordBytes.{recordWalk, records-count}
+use Rattle.tokenizer.proofs.EachToken.{Each, each_token}
+use Rattle.tokenizer.proofs.EndToEnd.{end_to_end}
+use Rattle.tokenizer.proofs.NextPieceSizes.{piece_sized}
+use Rattle.tokenizer.proofs.RecordBytes.{record_walk, records_count}
 use Rattle.tokenizer.proofs.Walks.{Walk, Counted, Wrote}
 
 -- ---- the walk
@@ -36,52 +36,52 @@ marked : (n : ℕ) → n ≡ length (marks n)
 marked zero = refl
 marked (suc n) = ap suc (marked n)
 
-pub token-marked : (t : Token) → t.escaped ≡ length (marks t.escaped)
-token-marked t = marked t.escaped
+pub token_marked : (t : Token) → t.escaped ≡ length (marks t.escaped)
+token_marked t = marked t.escaped
 
-abbrev pub allMarks : List Token → List (Unit {0})
-allMarks [] = []
-allMarks (t ∷ ts) = marks t.escaped ++ allMarks ts
+abbrev pub all_marks : List Token → List (Unit {0})
+all_marks [] = []
+all_marks (t ∷ ts) = marks t.escaped ++ all_marks ts
 
-abbrev pub escapedWalk : Walk (Unit {0}) (Unit {0})
-escapedWalk = record { adds = λ x t. marks t.escaped; past = λ x t. x; text = λ x ts. allMarks ts; none = λ x. refl; more = λ x t ts. refl }
+abbrev pub escaped_walk : Walk (Unit {0}) (Unit {0})
+escaped_walk = record { adds = λ x t. marks t.escaped; past = λ x t. x; text = λ x ts. all_marks ts; none = λ x. refl; more = λ x t ts. refl }
 
-all-marked : (ts : List Token) → length (allMarks ts) ≡ escapedIn ts
-unfolding escapedIn
-all-marked [] = refl
-all-marked (t ∷ ts) = rw (length-append, ← marked t.escaped, all-marked ts)
+all_marked : (ts : List Token) → length (all_marks ts) ≡ escaped_in ts
+unfolding escaped_in
+all_marked [] = refl
+all_marked (t ∷ ts) = rw (length-append, ← marked t.escaped, all_marked ts)
 
 -- ---- a quote that is escaped takes two bytes
 
 abbrev Few : List ℕ → Token → Type 0
 Few s t = t.escaped * 2 ≤ length (value s t)
 
-few-sum : (s : List ℕ) (ts : List Token) → Each (Few s) ts → escapedIn ts * 2 ≤ length (values s ts)
-unfolding escapedIn values
-few-sum s [] h = zero-le
-few-sum s (t ∷ ts) h = rw length-append (omega (arith, h.0, few-sum s ts h.1))
+few_sum : (s : List ℕ) (ts : List Token) → Each (Few s) ts → escaped_in ts * 2 ≤ length (values s ts)
+unfolding escaped_in values
+few_sum s [] h = zero-le
+few_sum s (t ∷ ts) h = rw length-append (omega (arith, h.0, few_sum s ts h.1))
 
 module _ (settings : Settings) (s : List ℕ) where
-  few-each : Each (Few s) (tokens settings s)
-  few-each = each-token settings s (Few s) (λ at. Unit {0}) one tt
+  few_each : Each (Few s) (tokens settings s)
+  few_each = each_token settings s (Few s) (λ at. Unit {0}) one tt
     where
-      one : (memory : Memory) (at : ℕ) (p : Piece) → at < length s → Unit {0} → nextPiece settings memory (drop at s) ≡ R.Token p → Few s (tokenAt settings at p) × Unit {0}
+      one : (memory : Memory) (at : ℕ) (p : Piece) → at < length s → Unit {0} → next_piece settings memory (drop at s) ≡ R.Token p → Few s (token_at settings at p) × Unit {0}
       one memory at p h u e =
-          let f : Sized (drop at s) (R.Token p) = rw e at (piece-sized settings memory (drop at s)) in
-          (rw (length-take-le p.len (drop at s) f.inside) f.escaped-inside, tt)
+          let f : Sized (drop at s) (R.Token p) = rw e at (piece_sized settings memory (drop at s)) in
+          (rw (length-take-le p.len (drop at s) f.inside) f.escaped_inside, tt)
 
-  pub few-escaped : escapedIn (tokens settings s) * 2 ≤ length s
-  few-escaped = rw end-to-end at (few-sum s (tokens settings s) few-each)
+  pub few_escaped : escaped_in (tokens settings s) * 2 ≤ length s
+  few_escaped = rw end_to_end at (few_sum s (tokens settings s) few_each)
 
-  pub escaped-fit : length s < 2 ^ 64 → length (allMarks (tokens settings s)) < 2 ^ 64
-  escaped-fit h = omega (arith, all-marked (tokens settings s), few-escaped)
+  pub escaped_fit : length s < 2 ^ 64 → length (all_marks (tokens settings s)) < 2 ^ 64
+  escaped_fit h = omega (arith, all_marked (tokens settings s), few_escaped)
 
 -- ---- the loop
 
 pub record Tabled (settings : Settings) (s before table : List ℕ) (at escaped level : ℕ) (c : Cursor) : Type 0 where
-  pub wrote : Wrote recordWalk settings s (recordsOf (tokens settings s)) before table at level c
+  pub wrote : Wrote record_walk settings s (records_of (tokens settings s)) before table at level c
   pub low : level ≤ c.at
-  pub marked : Counted escapedWalk settings s (allMarks (tokens settings s)) escaped tt c
+  pub marked : Counted escaped_walk settings s (all_marks (tokens settings s)) escaped tt c
 
-pub totals-are : (ts : List Token) (at escaped : ℕ) → at ≡ length (recordsOf ts) → escaped ≡ length (allMarks ts) → ◌≡◌ {A = Totals} (record { tokens = at / recordBytes; escaped = escaped }) (totals ts)
-totals-are ts at escaped e f = rw (records-count ts at e, f, all-marked ts)
+pub totals_are : (ts : List Token) (at escaped : ℕ) → at ≡ length (records_of ts) → escaped ≡ length (all_marks ts) → ◌≡◌ {A = Totals} (record { tokens = at / record_bytes; escaped = escaped }) (totals ts)
+totals_are ts at escaped e f = rw (records_count ts at e, f, all_marked ts)

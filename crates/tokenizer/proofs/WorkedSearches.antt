@@ -11,39 +11,39 @@ use Rattle.recognisers.specs.declared.Key.{Key}
 use Rattle.recognisers.specs.declared.Key.TheVariants.{None, Named, ZeroIndexed, OneIndexed}
 use Rattle.recognisers.specs.declared.TokenKind.{TokenKind}
 use Rattle.recognisers.specs.declared.TokenKind.TheVariants as K
-use Rattle.recognisers.specs.Kinds.{isKind}
+use Rattle.recognisers.specs.Kinds.{is_kind}
 use Rattle.recognisers.specs.Text.{byte, bytes}
 use Rattle.calls.specs.declared.Settings.{Settings}
 use Rattle.tokenizer.specs.declared.Token.{Token}
 use Rattle.characters.specs.Alphabetic.{alphabetic}
-use Rattle.characters.specs.Character.{isContinuation, continuations, continued, firstBits, withBits, characterLength, codePoint, character}
-use Rattle.characters.specs.Classes.{isWhitespace, isAlphabetic, isNumeric, isMark, isPunctuationConnector, isAlphanumeric, isWordCharacter, isPlaceholderNameCharacter}
+use Rattle.characters.specs.Character.{is_continuation, continuations, continued, first_bits, with_bits, character_length, code_point, character}
+use Rattle.characters.specs.Classes.{is_whitespace, is_alphabetic, is_numeric, is_mark, is_punctuation_connector, is_alphanumeric, is_word_character, is_placeholder_name_character}
 use Rattle.characters.specs.Connector.{connector}
 use Rattle.characters.specs.Mark.{mark}
 use Rattle.characters.specs.Numeric.{numeric}
-use Rattle.characters.specs.Ranges.{within, inRanges}
-use Rattle.characters.specs.Runs.{inClass, run}
-use Rattle.characters.specs.WhiteSpace.{whiteSpace}
-use Rattle.recognisers.specs.Comment.{tillLineEnding, throughBlockEnd, getCommentToken}
-use Rattle.recognisers.specs.Number.{decimalNumber, signedDigits, exponent, scientificNotation, unsigned, getNumberToken}
-use Rattle.recognisers.specs.Parens.{getOpenParenToken, getCloseParenToken}
-use Rattle.recognisers.specs.Placeholder.{numberFrom, indexedKey, indexedTaken, getIndexedPlaceholderToken, placeholderName, identTaken, getIdentNamedPlaceholderToken, throughBrace, bracedText, bracedTaken, getBracedNamedPlaceholderToken, hasEscape, stringKey, stringNamedTaken, getStringNamedPlaceholderToken, getPlaceholderToken}
-use Rattle.recognisers.specs.Strings.{takeTillEscaping, closedBy, hexTaken, quotedTaken, stringTaken, getStringToken, placeholderQuotedTaken, placeholderStringTaken}
-use Rattle.recognisers.specs.Taking.{one, spelled, isSpelled, typed, capital, blanks, endOfWord, count, digit1, digit0, contains, startsWith}
-use Rattle.recognisers.specs.TypeSpecifier.{getTypeSpecifierToken}
-use Rattle.recognisers.specs.Words.{getWhitespaceToken, isOperator, getOperatorToken, getWordToken, getAnyOtherChar}
-use Rattle.reserved.specs.Join.{joinPhrases}
-use Rattle.reserved.specs.Newline.{newlinePhrases}
-use Rattle.reserved.specs.NewlineAfter.{newlineAfterPhrases}
-use Rattle.reserved.specs.NoIndent.{noIndentPhrases}
-use Rattle.reserved.specs.Phrases.{walk, optional, phraseEnd, firstPhrase, each}
-use Rattle.reserved.specs.Plain.{plainTwoPhrases, plainA, plainB, plainC, plainD, plainE, plainF, plainG, plainH, plainI, plainK, plainL, plainM, plainN, plainO, plainP, plainQ, plainR, plainS, plainT, plainU, plainV, plainW, plainY, plainOnePhrases}
+use Rattle.characters.specs.Ranges.{within, in_ranges}
+use Rattle.characters.specs.Runs.{in_class, run}
+use Rattle.characters.specs.WhiteSpace.{white_space}
+use Rattle.recognisers.specs.Comment.{till_line_ending, through_block_end, get_comment_token}
+use Rattle.recognisers.specs.Number.{decimal_number, signed_digits, exponent, scientific_notation, unsigned, get_number_token}
+use Rattle.recognisers.specs.Parens.{get_open_paren_token, get_close_paren_token}
+use Rattle.recognisers.specs.Placeholder.{number_from, indexed_key, indexed_taken, get_indexed_placeholder_token, placeholder_name, ident_taken, get_ident_named_placeholder_token, through_brace, braced_text, braced_taken, get_braced_named_placeholder_token, has_escape, string_key, string_named_taken, get_string_named_placeholder_token, get_placeholder_token}
+use Rattle.recognisers.specs.Strings.{take_till_escaping, closed_by, hex_taken, quoted_taken, string_taken, get_string_token, placeholder_quoted_taken, placeholder_string_taken}
+use Rattle.recognisers.specs.Taking.{one, spelled, is_spelled, typed, capital, blanks, end_of_word, count, digit1, digit0, contains, starts_with}
+use Rattle.recognisers.specs.TypeSpecifier.{get_type_specifier_token}
+use Rattle.recognisers.specs.Words.{get_whitespace_token, is_operator, get_operator_token, get_word_token, get_any_other_char}
+use Rattle.reserved.specs.Join.{join_phrases}
+use Rattle.reserved.specs.Newline.{newline_phrases}
+use Rattle.reserved.specs.NewlineAfter.{newline_after_phrases}
+use Rattle.reserved.specs.NoIndent.{no_indent_phrases}
+use Rattle.reserved.specs.Phrases.{walk, optional, phrase_end, first_phrase, each}
+use Rattle.reserved.specs.Plain.{plain_two_phrases, plain_a, plain_b, plain_c, plain_d, plain_e, plain_f, plain_g, plain_h, plain_i, plain_k, plain_l, plain_m, plain_n, plain_o, plain_p, plain_q, plain_r, plain_s, plain_t, plain_u, plain_v, plain_w, plain_y, plain_one_phrases}
 use Rattle.recognisers.specs.Same.{same}
-use Rattle.reserved.specs.Reserved.{topLevelKind, aliasLength, getTopLevelReservedToken, getNewlineAfterReservedToken, getNewlineReservedToken, getJoinToken, getTopLevelReservedTokenNoIndent, getPlainReservedToken, mayBeReserved, getReservedWordToken}
-use Rattle.reserved.specs.TopLevel.{creatable, alterableOrDroppable, eachDropped, topLevelPhrases}
-use Rattle.tokenizer.specs.Memory.{takesTypeSpecifier, topLevelOf, afterBetween, lastTopLevel, remember, remembered}
-use Rattle.tokenizer.specs.NextToken.{fromWord, fromPlaceholder, fromOperator, fromReserved, fromNumber, fromCloseParen, fromOpenParen, fromString, fromTypeSpecifier, getNextToken, nextPiece}
-use Rattle.tokenizer.specs.Tokens.{givenOut, stepAt, tokensFrom, tokens}
+use Rattle.reserved.specs.Reserved.{top_level_kind, alias_length, get_top_level_reserved_token, get_newline_after_reserved_token, get_newline_reserved_token, get_join_token, get_top_level_reserved_token_no_indent, get_plain_reserved_token, may_be_reserved, get_reserved_word_token}
+use Rattle.reserved.specs.TopLevel.{creatable, alterable_or_droppable, each_dropped, top_level_phrases}
+use Rattle.tokenizer.specs.Memory.{takes_type_specifier, top_level_of, after_between, last_top_level, remember, remembered}
+use Rattle.tokenizer.specs.NextToken.{from_word, from_placeholder, from_operator, from_reserved, from_number, from_close_paren, from_open_paren, from_string, from_type_specifier, get_next_token, next_piece}
+use Rattle.tokenizer.specs.Tokens.{given_out, step_at, tokens_from, tokens}
 
 abbrev pub Shown : Type 0
 Shown = List (TokenKind × ℕ × Key)
@@ -51,7 +51,7 @@ Shown = List (TokenKind × ℕ × Key)
 -- the tokens without whitespace
 pub shown : List Token → Shown
 shown [] = []
-shown (t ∷ ts) = cond (isKind t.kind K.Whitespace) (shown ts) ((t.kind, t.len, t.key) ∷ shown ts)
+shown (t ∷ ts) = cond (is_kind t.kind K.Whitespace) (shown ts) ((t.kind, t.len, t.key) ∷ shown ts)
 
 settings : Dialect → Bool → Settings
 settings dialect named = record { dialect = dialect; joins = false; named = named }
@@ -83,5 +83,5 @@ searches =
     ∷ []
 
 pub worked : map (λ w. shown (tokens w.0 w.1)) searches ≡ map (λ w. w.2) searches
-unfolding alphabetic isContinuation continuations continued firstBits withBits characterLength codePoint character isWhitespace isAlphabetic isNumeric isMark isPunctuationConnector isAlphanumeric isWordCharacter isPlaceholderNameCharacter connector mark numeric within inRanges inClass run whiteSpace tillLineEnding throughBlockEnd getCommentToken decimalNumber signedDigits exponent scientificNotation unsigned getNumberToken getOpenParenToken getCloseParenToken numberFrom indexedKey indexedTaken getIndexedPlaceholderToken placeholderName identTaken getIdentNamedPlaceholderToken throughBrace bracedText bracedTaken getBracedNamedPlaceholderToken hasEscape stringKey stringNamedTaken getStringNamedPlaceholderToken getPlaceholderToken takeTillEscaping closedBy hexTaken quotedTaken stringTaken getStringToken placeholderQuotedTaken placeholderStringTaken one spelled isSpelled typed capital blanks endOfWord count digit1 digit0 contains startsWith getTypeSpecifierToken getWhitespaceToken isOperator getOperatorToken getWordToken getAnyOtherChar joinPhrases newlinePhrases newlineAfterPhrases noIndentPhrases walk optional phraseEnd firstPhrase each plainTwoPhrases plainA plainB plainC plainD plainE plainF plainG plainH plainI plainK plainL plainM plainN plainO plainP plainQ plainR plainS plainT plainU plainV plainW plainY plainOnePhrases same topLevelKind aliasLength getTopLevelReservedToken getNewlineAfterReservedToken getNewlineReservedToken getJoinToken getTopLevelReservedTokenNoIndent getPlainReservedToken mayBeReserved getReservedWordToken creatable alterableOrDroppable eachDropped topLevelPhrases takesTypeSpecifier topLevelOf afterBetween lastTopLevel remember remembered fromWord fromPlaceholder fromOperator fromReserved fromNumber fromCloseParen fromOpenParen fromString fromTypeSpecifier getNextToken nextPiece givenOut stepAt tokensFrom tokens shown settings generic plain searches
+unfolding alphabetic is_continuation continuations continued first_bits with_bits character_length code_point character is_whitespace is_alphabetic is_numeric is_mark is_punctuation_connector is_alphanumeric is_word_character is_placeholder_name_character connector mark numeric within in_ranges in_class run white_space till_line_ending through_block_end get_comment_token decimal_number signed_digits exponent scientific_notation unsigned get_number_token get_open_paren_token get_close_paren_token number_from indexed_key indexed_taken get_indexed_placeholder_token placeholder_name ident_taken get_ident_named_placeholder_token through_brace braced_text braced_taken get_braced_named_placeholder_token has_escape string_key string_named_taken get_string_named_placeholder_token get_placeholder_token take_till_escaping closed_by hex_taken quoted_taken string_taken get_string_token placeholder_quoted_taken placeholder_string_taken one spelled is_spelled typed capital blanks end_of_word count digit1 digit0 contains starts_with get_type_specifier_token get_whitespace_token is_operator get_operator_token get_word_token get_any_other_char join_phrases newline_phrases newline_after_phrases no_indent_phrases walk optional phrase_end first_phrase each plain_two_phrases plain_a plain_b plain_c plain_d plain_e plain_f plain_g plain_h plain_i plain_k plain_l plain_m plain_n plain_o plain_p plain_q plain_r plain_s plain_t plain_u plain_v plain_w plain_y plain_one_phrases same top_level_kind alias_length get_top_level_reserved_token get_newline_after_reserved_token get_newline_reserved_token get_join_token get_top_level_reserved_token_no_indent get_plain_reserved_token may_be_reserved get_reserved_word_token creatable alterable_or_droppable each_dropped top_level_phrases takes_type_specifier top_level_of after_between last_top_level remember remembered from_word from_placeholder from_operator from_reserved from_number from_close_paren from_open_paren from_string from_type_specifier get_next_token next_piece given_out step_at tokens_from tokens shown settings generic plain searches
 worked = refl

@@ -3,10 +3,10 @@ use Rattle.std.specs.Prelude.{ℕ, ◌+◌, List, [], ◌∷◌, length}
 use Rattle.tokenizer.specs.declared.Token.{Token}
 use Rattle.tokenizer.specs.declared.Totals.{Totals}
 
-unfoldable pub escapedIn : List Token → ℕ
-escapedIn [] = 0
-escapedIn (t ∷ ts) = t.escaped + escapedIn ts
+unfoldable pub escaped_in : List Token → ℕ
+escaped_in [] = 0
+escaped_in (t ∷ ts) = t.escaped + escaped_in ts
 
 -- the tokens, and those quotes
 abbrev pub totals : List Token → Totals
-totals ts = record { tokens = length ts; escaped = escapedIn ts }
+totals ts = record { tokens = length ts; escaped = escaped_in ts }

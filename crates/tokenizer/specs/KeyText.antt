@@ -3,17 +3,17 @@ use Rattle.std.specs.Prelude.{ℕ, ◌+◌, cond, ◌&&◌, List, [], ◌∷◌,
 use Rattle.recognisers.specs.declared.Key.{Key}
 use Rattle.recognisers.specs.declared.Key.TheVariants.{None, Named, Escaped, ZeroIndexed, OneIndexed}
 use Rattle.recognisers.specs.Text.{byte}
-use Rattle.recognisers.specs.Taking.{startsWith}
+use Rattle.recognisers.specs.Taking.{starts_with}
 
 -- `get_escaped_placeholder_key`: a backslash directly before the quote goes
 unfoldable pub unescaped : ℕ → List ℕ → List ℕ
 unescaped quote [] = []
-unescaped quote (b ∷ text) = cond (eqb b (byte "\\") && startsWith quote text) (unescaped quote text) (b ∷ unescaped quote text)
+unescaped quote (b ∷ text) = cond (eqb b (byte "\\") && starts_with quote text) (unescaped quote text) (b ∷ unescaped quote text)
 
 -- `PlaceholderKind::named`: an index has the empty text. The quote stands behind the text.
-abbrev pub keyText : List ℕ → Key → List ℕ
-keyText s None = []
-keyText s (Named start len) = take len (drop start s)
-keyText s (Escaped start len) = unescaped (get_or s (start + len) 0) (take len (drop start s))
-keyText s (ZeroIndexed n) = []
-keyText s (OneIndexed n) = []
+abbrev pub key_text : List ℕ → Key → List ℕ
+key_text s None = []
+key_text s (Named start len) = take len (drop start s)
+key_text s (Escaped start len) = unescaped (get_or s (start + len) 0) (take len (drop start s))
+key_text s (ZeroIndexed n) = []
+key_text s (OneIndexed n) = []

@@ -3,17 +3,17 @@
 use Rattle.std.specs.Prelude.{ℕ, suc, pred, cond, List, [], ◌∷◌}
 use Rattle.recognisers.specs.declared.TokenKind.{TokenKind}
 use Rattle.recognisers.specs.declared.TokenKind.TheVariants.{OpenParen, CloseParen}
-use Rattle.recognisers.specs.Kinds.{isKind}
+use Rattle.recognisers.specs.Kinds.{is_kind}
 use Rattle.tokenizer.specs.declared.Token.{Token}
 
 -- the level past a token of this kind
-unfoldable pub levelPast : ℕ → TokenKind → ℕ
-levelPast level kind = cond (isKind kind OpenParen) (suc level) (cond (isKind kind CloseParen) (pred level) level)
+unfoldable pub level_past : ℕ → TokenKind → ℕ
+level_past level kind = cond (is_kind kind OpenParen) (suc level) (cond (is_kind kind CloseParen) (pred level) level)
 
 -- the level of each token, from a level on
-unfoldable pub levelsFrom : ℕ → List Token → List ℕ
-levelsFrom level [] = []
-levelsFrom level (t ∷ ts) = level ∷ levelsFrom (levelPast level t.kind) ts
+unfoldable pub levels_from : ℕ → List Token → List ℕ
+levels_from level [] = []
+levels_from level (t ∷ ts) = level ∷ levels_from (level_past level t.kind) ts
 
 unfoldable pub levels : List Token → List ℕ
-levels ts = levelsFrom 0 ts
+levels ts = levels_from 0 ts

@@ -2,49 +2,49 @@
 use Rattle.std.specs.Prelude.{ℕ, List}
 use Rattle.recognisers.specs.declared.Recognised.{Recognised}
 use Rattle.recognisers.specs.Pieces.{alt}
-use Rattle.recognisers.specs.Comment.{getCommentToken}
-use Rattle.recognisers.specs.TypeSpecifier.{getTypeSpecifierToken}
-use Rattle.recognisers.specs.Strings.{getStringToken}
-use Rattle.recognisers.specs.Parens.{getOpenParenToken, getCloseParenToken}
-use Rattle.recognisers.specs.Number.{getNumberToken}
-use Rattle.recognisers.specs.Placeholder.{getPlaceholderToken}
-use Rattle.recognisers.specs.Words.{getWhitespaceToken, getOperatorToken, getWordToken, getAnyOtherChar}
-use Rattle.reserved.specs.Reserved.{getReservedWordToken}
+use Rattle.recognisers.specs.Comment.{get_comment_token}
+use Rattle.recognisers.specs.TypeSpecifier.{get_type_specifier_token}
+use Rattle.recognisers.specs.Strings.{get_string_token}
+use Rattle.recognisers.specs.Parens.{get_open_paren_token, get_close_paren_token}
+use Rattle.recognisers.specs.Number.{get_number_token}
+use Rattle.recognisers.specs.Placeholder.{get_placeholder_token}
+use Rattle.recognisers.specs.Words.{get_whitespace_token, get_operator_token, get_word_token, get_any_other_char}
+use Rattle.reserved.specs.Reserved.{get_reserved_word_token}
 use Rattle.tokenizer.specs.declared.Memory.{Memory}
 use Rattle.calls.specs.declared.Settings.{Settings}
 
 -- the alternatives from one recogniser on, the last first
-unfoldable pub fromWord : List ℕ → Recognised
-fromWord s = alt (getWordToken s) (getAnyOtherChar s)
+unfoldable pub from_word : List ℕ → Recognised
+from_word s = alt (get_word_token s) (get_any_other_char s)
 
-unfoldable pub fromPlaceholder : Settings → List ℕ → Recognised
-fromPlaceholder settings s = alt (getPlaceholderToken settings.named settings.dialect s) (fromWord s)
+unfoldable pub from_placeholder : Settings → List ℕ → Recognised
+from_placeholder settings s = alt (get_placeholder_token settings.named settings.dialect s) (from_word s)
 
-unfoldable pub fromOperator : Settings → List ℕ → Recognised
-fromOperator settings s = alt (getOperatorToken s) (fromPlaceholder settings s)
+unfoldable pub from_operator : Settings → List ℕ → Recognised
+from_operator settings s = alt (get_operator_token s) (from_placeholder settings s)
 
-unfoldable pub fromReserved : Settings → Memory → List ℕ → Recognised
-fromReserved settings memory s =
-    alt (getReservedWordToken memory.after_dot memory.after_between memory.top_level s) (fromOperator settings s)
+unfoldable pub from_reserved : Settings → Memory → List ℕ → Recognised
+from_reserved settings memory s =
+    alt (get_reserved_word_token memory.after_dot memory.after_between memory.top_level s) (from_operator settings s)
 
-unfoldable pub fromNumber : Settings → Memory → List ℕ → Recognised
-fromNumber settings memory s = alt (getNumberToken s) (fromReserved settings memory s)
+unfoldable pub from_number : Settings → Memory → List ℕ → Recognised
+from_number settings memory s = alt (get_number_token s) (from_reserved settings memory s)
 
-unfoldable pub fromCloseParen : Settings → Memory → List ℕ → Recognised
-fromCloseParen settings memory s = alt (getCloseParenToken settings.dialect s) (fromNumber settings memory s)
+unfoldable pub from_close_paren : Settings → Memory → List ℕ → Recognised
+from_close_paren settings memory s = alt (get_close_paren_token settings.dialect s) (from_number settings memory s)
 
-unfoldable pub fromOpenParen : Settings → Memory → List ℕ → Recognised
-fromOpenParen settings memory s = alt (getOpenParenToken settings.dialect s) (fromCloseParen settings memory s)
+unfoldable pub from_open_paren : Settings → Memory → List ℕ → Recognised
+from_open_paren settings memory s = alt (get_open_paren_token settings.dialect s) (from_close_paren settings memory s)
 
-unfoldable pub fromString : Settings → Memory → List ℕ → Recognised
-fromString settings memory s = alt (getStringToken settings.dialect s) (fromOpenParen settings memory s)
+unfoldable pub from_string : Settings → Memory → List ℕ → Recognised
+from_string settings memory s = alt (get_string_token settings.dialect s) (from_open_paren settings memory s)
 
-unfoldable pub fromTypeSpecifier : Settings → Memory → List ℕ → Recognised
-fromTypeSpecifier settings memory s = alt (getTypeSpecifierToken memory.type_specifier s) (fromString settings memory s)
+unfoldable pub from_type_specifier : Settings → Memory → List ℕ → Recognised
+from_type_specifier settings memory s = alt (get_type_specifier_token memory.type_specifier s) (from_string settings memory s)
 
-unfoldable pub getNextToken : Settings → Memory → List ℕ → Recognised
-getNextToken settings memory s = alt (getCommentToken s) (fromTypeSpecifier settings memory s)
+unfoldable pub get_next_token : Settings → Memory → List ℕ → Recognised
+get_next_token settings memory s = alt (get_comment_token s) (from_type_specifier settings memory s)
 
 -- whitespace is taken first
-unfoldable pub nextPiece : Settings → Memory → List ℕ → Recognised
-nextPiece settings memory s = alt (getWhitespaceToken s) (getNextToken settings memory s)
+unfoldable pub next_piece : Settings → Memory → List ℕ → Recognised
+next_piece settings memory s = alt (get_whitespace_token s) (get_next_token settings memory s)

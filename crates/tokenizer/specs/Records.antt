@@ -2,45 +2,45 @@
 use Rattle.std.specs.Prelude.{ℕ, ◌*◌, ◌/◌, ◌%◌, List, [], ◌∷◌, ◌++◌, length, drop}
 use Rattle.recognisers.specs.declared.Key.{Key}
 use Rattle.recognisers.specs.declared.Key.TheVariants.{None, Named, Escaped, ZeroIndexed, OneIndexed}
-use Rattle.recognisers.specs.Kinds.{kindNumber}
+use Rattle.recognisers.specs.Kinds.{kind_number}
 use Rattle.calls.specs.LittleEndian.{le32}
 use Rattle.tokenizer.specs.declared.KeyWords.{KeyWords}
 use Rattle.tokenizer.specs.declared.Token.{Token}
 use Rattle.tokenizer.specs.Levels.{levels}
 
 -- the bytes of a record
-abbrev pub recordBytes : ℕ
-recordBytes = 32
+abbrev pub record_bytes : ℕ
+record_bytes = 32
 
 -- key kind, key a and key b; a number's high and low half
-abbrev pub keyWords : Key → KeyWords
-keyWords None = record { kind = 0; a = 0; b = 0 }
-keyWords (Named start len) = record { kind = 1; a = start; b = len }
-keyWords (Escaped start len) = record { kind = 2; a = start; b = len }
-keyWords (ZeroIndexed n) = record { kind = 3; a = n / 4294967296; b = n % 4294967296 }
-keyWords (OneIndexed n) = record { kind = 4; a = n / 4294967296; b = n % 4294967296 }
+abbrev pub key_words : Key → KeyWords
+key_words None = record { kind = 0; a = 0; b = 0 }
+key_words (Named start len) = record { kind = 1; a = start; b = len }
+key_words (Escaped start len) = record { kind = 2; a = start; b = len }
+key_words (ZeroIndexed n) = record { kind = 3; a = n / 4294967296; b = n % 4294967296 }
+key_words (OneIndexed n) = record { kind = 4; a = n / 4294967296; b = n % 4294967296 }
 
 -- kind, start, length and alias length
-unfoldable pub placeBytes : ℕ → ℕ → ℕ → ℕ → List ℕ
-placeBytes kind start len alias = le32 kind ++ (le32 start ++ (le32 len ++ le32 alias))
+unfoldable pub place_bytes : ℕ → ℕ → ℕ → ℕ → List ℕ
+place_bytes kind start len alias = le32 kind ++ (le32 start ++ (le32 len ++ le32 alias))
 
-unfoldable pub keyBytes : KeyWords → List ℕ
-keyBytes k = le32 k.kind ++ (le32 k.a ++ le32 k.b)
+unfoldable pub key_bytes : KeyWords → List ℕ
+key_bytes k = le32 k.kind ++ (le32 k.a ++ le32 k.b)
 
 -- the record of a token at a level
-unfoldable pub recordOf : ℕ → Token → List ℕ
-recordOf level t =
-    placeBytes (kindNumber t.kind) t.start t.len t.alias ++ (keyBytes (keyWords t.key) ++ le32 level)
+unfoldable pub record_of : ℕ → Token → List ℕ
+record_of level t =
+    place_bytes (kind_number t.kind) t.start t.len t.alias ++ (key_bytes (key_words t.key) ++ le32 level)
 
 -- of each token at its level
-unfoldable pub recordsAt : List ℕ → List Token → List ℕ
-recordsAt [] ts = []
-recordsAt (level ∷ levels) [] = []
-recordsAt (level ∷ levels) (t ∷ ts) = recordOf level t ++ recordsAt levels ts
+unfoldable pub records_at : List ℕ → List Token → List ℕ
+records_at [] ts = []
+records_at (level ∷ levels) [] = []
+records_at (level ∷ levels) (t ∷ ts) = record_of level t ++ records_at levels ts
 
-unfoldable pub recordsOf : List Token → List ℕ
-recordsOf ts = recordsAt (levels ts) ts
+unfoldable pub records_of : List Token → List ℕ
+records_of ts = records_at (levels ts) ts
 
 -- a table once the tokens' records are written over its start
 unfoldable pub written : List Token → List ℕ → List ℕ
-written ts table = recordsOf ts ++ drop (length ts * recordBytes) table
+written ts table = records_of ts ++ drop (length ts * record_bytes) table

@@ -4,7 +4,7 @@ use Rattle.recognisers.specs.declared.Key.{Key}
 use Rattle.recognisers.specs.declared.Key.TheVariants.{None, Named, Escaped, ZeroIndexed, OneIndexed}
 use Rattle.recognisers.specs.declared.TokenKind.{TokenKind}
 use Rattle.recognisers.specs.declared.TokenKind.TheVariants
-use Rattle.recognisers.specs.Kinds.{isKind}
+use Rattle.recognisers.specs.Kinds.{is_kind}
 use Rattle.recognisers.specs.declared.Piece.{Piece}
 use Rattle.recognisers.specs.declared.Recognised.{Recognised}
 use Rattle.recognisers.specs.declared.Recognised.TheVariants as R
@@ -15,11 +15,11 @@ use Rattle.tokenizer.specs.declared.Cursor.{Cursor}
 use Rattle.tokenizer.specs.declared.Step.{Step}
 use Rattle.tokenizer.specs.declared.Step.TheVariants as S
 use Rattle.tokenizer.specs.Memory.{start, remembered}
-use Rattle.tokenizer.specs.NextToken.{nextPiece}
+use Rattle.tokenizer.specs.NextToken.{next_piece}
 
 -- a Join is given out as top level or as a newline word
-unfoldable pub givenOut : Bool → TokenKind → TokenKind
-givenOut joins kind = cond (isKind kind TokenKind.Join) (cond joins TokenKind.ReservedTopLevel TokenKind.ReservedNewline) kind
+unfoldable pub given_out : Bool → TokenKind → TokenKind
+given_out joins kind = cond (is_kind kind TokenKind.Join) (cond joins TokenKind.ReservedTopLevel TokenKind.ReservedNewline) kind
 
 -- a key's places, counted from the statement's start
 abbrev pub placed : ℕ → Key → Key
@@ -29,10 +29,10 @@ placed at (Escaped start len) = Escaped (at + start) len
 placed at (ZeroIndexed n) = ZeroIndexed n
 placed at (OneIndexed n) = OneIndexed n
 
-abbrev pub tokenAt : Settings → ℕ → Piece → Token
-tokenAt settings at piece =
+abbrev pub token_at : Settings → ℕ → Piece → Token
+token_at settings at piece =
     record {
-      kind = givenOut settings.joins piece.kind;
+      kind = given_out settings.joins piece.kind;
       start = at;
       len = piece.len;
       alias = piece.alias;
@@ -41,28 +41,28 @@ tokenAt settings at piece =
     }
 
 -- the token at the cursor, and the cursor past it
-abbrev pub stepOf : Settings → List ℕ → Cursor → Recognised → Step
-stepOf settings s cursor (R.Token piece) =
-    S.Token (tokenAt settings cursor.at piece)
+abbrev pub step_of : Settings → List ℕ → Cursor → Recognised → Step
+step_of settings s cursor (R.Token piece) =
+    S.Token (token_at settings cursor.at piece)
     (record {
       at = cursor.at + piece.len;
       memory = remembered cursor.memory piece.kind (take piece.len (drop cursor.at s)) piece.alias;
     })
-stepOf settings s cursor R.Nothing = S.Done
+step_of settings s cursor R.Nothing = S.Done
 
-unfoldable pub stepAt : Settings → List ℕ → Cursor → Step
-stepAt settings s cursor =
-    cond (ltb cursor.at (length s)) (stepOf settings s cursor (nextPiece settings cursor.memory (drop cursor.at s))) S.Done
+unfoldable pub step_at : Settings → List ℕ → Cursor → Step
+step_at settings s cursor =
+    cond (ltb cursor.at (length s)) (step_of settings s cursor (next_piece settings cursor.memory (drop cursor.at s))) S.Done
 
 -- the tokens of a rest that starts at a place, where its first `passed` bytes belong to a token that has been read
-unfoldable pub tokensFrom : Settings → Memory → ℕ → ℕ → List ℕ → List Token
-tokensFrom settings memory at passed [] = []
-tokensFrom settings memory at (suc passed) (b ∷ s) = tokensFrom settings memory (suc at) passed s
-tokensFrom settings memory at zero (b ∷ s) =
-    elim (nextPiece settings memory (b ∷ s)) [
-      | R.Token piece ↦ tokenAt settings at piece ∷ tokensFrom settings (remembered memory piece.kind (take piece.len (b ∷ s)) piece.alias) (suc at) (pred piece.len) s
+unfoldable pub tokens_from : Settings → Memory → ℕ → ℕ → List ℕ → List Token
+tokens_from settings memory at passed [] = []
+tokens_from settings memory at (suc passed) (b ∷ s) = tokens_from settings memory (suc at) passed s
+tokens_from settings memory at zero (b ∷ s) =
+    elim (next_piece settings memory (b ∷ s)) [
+      | R.Token piece ↦ token_at settings at piece ∷ tokens_from settings (remembered memory piece.kind (take piece.len (b ∷ s)) piece.alias) (suc at) (pred piece.len) s
       | R.Nothing ↦ []
     ]
 
 unfoldable pub tokens : Settings → List ℕ → List Token
-tokens settings statement = tokensFrom settings start 0 0 statement
+tokens settings statement = tokens_from settings start 0 0 statement

@@ -2,8 +2,8 @@
 // compiled into each loop over tokens, since an answer that is handed back through memory is waited for.
 ghost use Rattle.std.specs.Prelude.{◌≡◌};
 ghost use Rattle.recognisers.specs.Inner.Known.{Truthful};
-ghost use Rattle.recognisers.specs.Inner.WordLength.{wordLength};
-ghost use Rattle.tokenizer.specs.NextToken.{fromWord, fromPlaceholder, fromOperator, fromReserved, fromNumber, fromCloseParen, fromOpenParen, fromString, fromTypeSpecifier, getNextToken, nextPiece};
+ghost use Rattle.recognisers.specs.Inner.WordLength.{word_length};
+ghost use Rattle.tokenizer.specs.NextToken.{from_word, from_placeholder, from_operator, from_reserved, from_number, from_close_paren, from_open_paren, from_string, from_type_specifier, get_next_token, next_piece};
 
 use crate::Memory;
 use calls::Settings;
@@ -16,8 +16,8 @@ use reserved::get_reserved_word_token;
 
 #[inline(always)]
 fn from_word(rest: &[u8], word: usize) -> Recognised
-    requires { word ≡ wordLength rest.now }
-    ensures { result ≡ fromWord rest.now }
+    requires { word ≡ word_length rest.now }
+    ensures { result ≡ from_word rest.now }
 {
     match get_word_token(rest, word) {
         Recognised::Token(piece) => Recognised::Token(piece),
@@ -27,9 +27,9 @@ fn from_word(rest: &[u8], word: usize) -> Recognised
 
 #[inline(always)]
 fn from_placeholder(rest: &[u8], word: usize, settings: Settings, hints: &[usize]) -> Recognised
-    requires word_value { word ≡ wordLength rest.now }
+    requires word_value { word ≡ word_length rest.now }
     requires truthful { Truthful hints.now rest.now }
-    ensures { result ≡ fromPlaceholder settings rest.now }
+    ensures { result ≡ from_placeholder settings rest.now }
 {
     let dialect = settings.dialect;
     match get_placeholder_token(rest, settings.named, dialect, hints) {
@@ -40,9 +40,9 @@ fn from_placeholder(rest: &[u8], word: usize, settings: Settings, hints: &[usize
 
 #[inline(always)]
 fn from_operator(rest: &[u8], word: usize, settings: Settings, hints: &[usize]) -> Recognised
-    requires word_value { word ≡ wordLength rest.now }
+    requires word_value { word ≡ word_length rest.now }
     requires truthful { Truthful hints.now rest.now }
-    ensures { result ≡ fromOperator settings rest.now }
+    ensures { result ≡ from_operator settings rest.now }
 {
     match get_operator_token(rest) {
         Recognised::Token(piece) => Recognised::Token(piece),
@@ -53,7 +53,7 @@ fn from_operator(rest: &[u8], word: usize, settings: Settings, hints: &[usize]) 
 #[inline(always)]
 fn from_reserved(rest: &[u8], settings: Settings, memory: Memory, hints: &[usize]) -> Recognised
     requires { Truthful hints.now rest.now }
-    ensures { result ≡ fromReserved settings memory rest.now }
+    ensures { result ≡ from_reserved settings memory rest.now }
 {
     let last = memory.top_level;
     let word = word_length(rest);
@@ -66,7 +66,7 @@ fn from_reserved(rest: &[u8], settings: Settings, memory: Memory, hints: &[usize
 #[inline(always)]
 fn from_number(rest: &[u8], settings: Settings, memory: Memory, hints: &[usize]) -> Recognised
     requires { Truthful hints.now rest.now }
-    ensures { result ≡ fromNumber settings memory rest.now }
+    ensures { result ≡ from_number settings memory rest.now }
 {
     match get_number_token(rest) {
         Recognised::Token(piece) => Recognised::Token(piece),
@@ -77,7 +77,7 @@ fn from_number(rest: &[u8], settings: Settings, memory: Memory, hints: &[usize])
 #[inline(always)]
 fn from_close_paren(rest: &[u8], settings: Settings, memory: Memory, hints: &[usize]) -> Recognised
     requires { Truthful hints.now rest.now }
-    ensures { result ≡ fromCloseParen settings memory rest.now }
+    ensures { result ≡ from_close_paren settings memory rest.now }
 {
     let dialect = settings.dialect;
     match get_close_paren_token(rest, dialect) {
@@ -89,7 +89,7 @@ fn from_close_paren(rest: &[u8], settings: Settings, memory: Memory, hints: &[us
 #[inline(always)]
 fn from_open_paren(rest: &[u8], settings: Settings, memory: Memory, hints: &[usize]) -> Recognised
     requires { Truthful hints.now rest.now }
-    ensures { result ≡ fromOpenParen settings memory rest.now }
+    ensures { result ≡ from_open_paren settings memory rest.now }
 {
     let dialect = settings.dialect;
     match get_open_paren_token(rest, dialect) {
@@ -101,7 +101,7 @@ fn from_open_paren(rest: &[u8], settings: Settings, memory: Memory, hints: &[usi
 #[inline(always)]
 fn from_string(rest: &[u8], settings: Settings, memory: Memory, hints: &[usize]) -> Recognised
     requires { Truthful hints.now rest.now }
-    ensures { result ≡ fromString settings memory rest.now }
+    ensures { result ≡ from_string settings memory rest.now }
 {
     let dialect = settings.dialect;
     match get_string_token(rest, dialect, hints) {
@@ -118,7 +118,7 @@ fn from_type_specifier(
     hints: &[usize],
 ) -> Recognised
     requires { Truthful hints.now rest.now }
-    ensures { result ≡ fromTypeSpecifier settings memory rest.now }
+    ensures { result ≡ from_type_specifier settings memory rest.now }
 {
     match get_type_specifier_token(rest, memory.type_specifier) {
         Recognised::Token(piece) => Recognised::Token(piece),
@@ -129,7 +129,7 @@ fn from_type_specifier(
 #[inline(always)]
 fn get_next_token(rest: &[u8], settings: Settings, memory: Memory, hints: &[usize]) -> Recognised
     requires { Truthful hints.now rest.now }
-    ensures { result ≡ getNextToken settings memory rest.now }
+    ensures { result ≡ get_next_token settings memory rest.now }
 {
     match get_comment_token(rest, hints) {
         Recognised::Token(piece) => Recognised::Token(piece),
@@ -141,7 +141,7 @@ fn get_next_token(rest: &[u8], settings: Settings, memory: Memory, hints: &[usiz
 #[inline(always)]
 pub fn next_piece(rest: &[u8], settings: Settings, memory: Memory, hints: &[usize]) -> Recognised
     requires { Truthful hints.now rest.now }
-    ensures { result ≡ nextPiece settings memory rest.now }
+    ensures { result ≡ next_piece settings memory rest.now }
 {
     match get_whitespace_token(rest) {
         Recognised::Token(piece) => Recognised::Token(piece),

@@ -1,13 +1,13 @@
 // How deep a token stands.
 ghost use Rattle.std.specs.Prelude.{◌≡◌, ◌+◌, ◌^◌, ◌<◌};
-ghost use Rattle.tokenizer.specs.Levels.{levelPast};
+ghost use Rattle.tokenizer.specs.Levels.{level_past};
 
 use recognisers::{TokenKind, is_kind};
 
 // The level past a token of this kind.
 pub fn level_past(level: usize, kind: TokenKind) -> usize
     requires { level + 1 < 2 ^ 64 }
-    ensures { result ≡ levelPast level kind }
+    ensures { result ≡ level_past level kind }
 {
     if is_kind(kind, TokenKind::OpenParen) {
         return level + 1;

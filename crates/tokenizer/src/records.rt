@@ -2,7 +2,7 @@
 ghost use Rattle.std.specs.Prelude.{◌≡◌, ◌+◌, ◌≤◌, ◌++◌, length};
 ghost use Rattle.std.proofs.lemmas.List.Edits.{sets};
 ghost use Rattle.calls.specs.LittleEndian.{le32};
-ghost use Rattle.tokenizer.specs.Records.{recordBytes, keyWords, placeBytes, keyBytes, recordOf};
+ghost use Rattle.tokenizer.specs.Records.{record_bytes, key_words, place_bytes, key_bytes, record_of};
 
 use crate::{KeyWords, Token};
 use calls::put_le32;
@@ -11,7 +11,7 @@ use recognisers::{Key, kind_number};
 pub const RECORD_BYTES: usize = 32;
 
 pub fn key_words(key: Key) -> KeyWords
-    ensures { result ≡ keyWords key }
+    ensures { result ≡ key_words key }
 {
     match key {
         Key::None => KeyWords {
@@ -44,7 +44,7 @@ pub fn key_words(key: Key) -> KeyWords
 
 fn put_place(table: &mut [u8], at: usize, kind: u64, start: usize, len: usize, alias: usize)
     requires { at + 16 ≤ length table.old }
-    ensures { table.new ≡ sets table.old at (placeBytes kind start len alias) }
+    ensures { table.new ≡ sets table.old at (place_bytes kind start len alias) }
 {
     put_le32(table, at, kind);
     put_le32(table, at + 4, start as u64);
@@ -54,7 +54,7 @@ fn put_place(table: &mut [u8], at: usize, kind: u64, start: usize, len: usize, a
 
 fn put_key(table: &mut [u8], at: usize, key: KeyWords, level: usize)
     requires { at + 16 ≤ length table.old }
-    ensures { table.new ≡ sets table.old at (keyBytes key ++ le32 level) }
+    ensures { table.new ≡ sets table.old at (key_bytes key ++ le32 level) }
 {
     put_le32(table, at, key.kind);
     put_le32(table, at + 4, key.a);
@@ -63,8 +63,8 @@ fn put_key(table: &mut [u8], at: usize, key: KeyWords, level: usize)
 }
 
 pub fn put_record(table: &mut [u8], at: usize, level: usize, token: Token)
-    requires { at + recordBytes ≤ length table.old }
-    ensures { table.new ≡ sets table.old at (recordOf level token) }
+    requires { at + record_bytes ≤ length table.old }
+    ensures { table.new ≡ sets table.old at (record_of level token) }
 {
     let kind = token.kind;
     let key = token.key;

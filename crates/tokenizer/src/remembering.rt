@@ -1,6 +1,6 @@
 // What is remembered of a token.
 ghost use Rattle.std.specs.Prelude.{◌≡◌, ◌≤◌, length};
-ghost use Rattle.tokenizer.specs.Memory.{takesTypeSpecifier, topLevelOf, afterBetween, lastTopLevel, remember, remembered};
+ghost use Rattle.tokenizer.specs.Memory.{takes_type_specifier, top_level_of, after_between, last_top_level, remember, remembered};
 
 use crate::Memory;
 use recognisers::{TokenKind, is_exactly, is_kind};
@@ -8,7 +8,7 @@ use reserved::TopLevel;
 
 #[inline(always)]
 fn takes_type_specifier(kind: TokenKind) -> bool
-    ensures { result ≡ takesTypeSpecifier kind }
+    ensures { result ≡ takes_type_specifier kind }
 {
     match kind {
         TokenKind::TypeSpecifier => true,
@@ -32,7 +32,7 @@ fn takes_type_specifier(kind: TokenKind) -> bool
 }
 
 fn top_level_of(alias: &[u8]) -> TopLevel
-    ensures { result ≡ topLevelOf alias.now }
+    ensures { result ≡ top_level_of alias.now }
 {
     if is_exactly(alias, b"SELECT") {
         return TopLevel::Select;
@@ -51,7 +51,7 @@ fn top_level_of(alias: &[u8]) -> TopLevel
 
 #[inline(always)]
 fn after_between(before: bool, kind: TokenKind, value: &[u8]) -> bool
-    ensures { result ≡ afterBetween before kind value.now }
+    ensures { result ≡ after_between before kind value.now }
 {
     if is_kind(kind, TokenKind::Reserved) {
         return is_exactly(value, b"BETWEEN");
@@ -62,7 +62,7 @@ fn after_between(before: bool, kind: TokenKind, value: &[u8]) -> bool
 #[inline(always)]
 fn last_top_level(before: TopLevel, kind: TokenKind, value: &[u8], alias: usize) -> TopLevel
     requires { alias ≤ length value.now }
-    ensures { result ≡ lastTopLevel before kind value.now alias }
+    ensures { result ≡ last_top_level before kind value.now alias }
 {
     if is_kind(kind, TokenKind::ReservedTopLevel) {
         return top_level_of(&value[..alias]);

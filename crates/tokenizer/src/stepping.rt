@@ -1,9 +1,9 @@
 // One step of reading.
 ghost use Rattle.std.specs.Prelude.{◌≡◌, ◌+◌, ◌^◌, ◌<◌, length};
-ghost use Rattle.recognisers.specs.Inner.KeyStart.{keyStart};
+ghost use Rattle.recognisers.specs.Inner.KeyStart.{key_start};
 ghost use Rattle.recognisers.specs.Inner.Known.{Truthful};
 ghost use Rattle.tokenizer.specs.Memory.{start};
-ghost use Rattle.tokenizer.specs.Tokens.{givenOut, placed, stepAt};
+ghost use Rattle.tokenizer.specs.Tokens.{given_out, placed, step_at};
 
 use crate::choice::next_piece;
 use crate::remembering::remember_piece;
@@ -30,7 +30,7 @@ pub fn at_start() -> Cursor
 // A Join is given out as top level or as a newline word.
 #[inline(always)]
 fn given_out(joins: bool, kind: TokenKind) -> TokenKind
-    ensures { result ≡ givenOut joins kind }
+    ensures { result ≡ given_out joins kind }
 {
     if is_kind(kind, TokenKind::Join) {
         if joins {
@@ -44,7 +44,7 @@ fn given_out(joins: bool, kind: TokenKind) -> TokenKind
 // A key's places, counted from the statement's start.
 #[inline(always)]
 fn place_key(at: usize, key: Key) -> Key
-    requires { at + keyStart key < 2 ^ 64 }
+    requires { at + key_start key < 2 ^ 64 }
     ensures { result ≡ placed at key }
 {
     match key {
@@ -78,7 +78,7 @@ fn learn(statement: &[u8], at: usize, kind: TokenKind, dialect: Dialect, hints: 
 #[inline(always)]
 pub fn next_step(statement: &[u8], settings: Settings, cursor: Cursor, hints: &mut [usize]) -> Step
     requires { Truthful hints.old statement.now }
-    ensures value { result ≡ stepAt settings statement.now cursor }
+    ensures value { result ≡ step_at settings statement.now cursor }
     ensures truthful { Truthful hints.new statement.now }
 {
     let at = cursor.at;

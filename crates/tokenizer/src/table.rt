@@ -1,9 +1,9 @@
 // The table that a statement's tokens are written to.
 ghost use Rattle.std.specs.Prelude.{◌≡◌, ◌*◌, ◌≤◌, length};
 ghost use Rattle.tokenizer.specs.Tokens.{tokens};
-ghost use Rattle.tokenizer.specs.Records.{recordBytes, written};
+ghost use Rattle.tokenizer.specs.Records.{record_bytes, written};
 ghost use Rattle.tokenizer.specs.EscapedQuotes.{totals};
-ghost use Rattle.tokenizer.specs.Answers.{allWritten, tableAnswer, tableAfter};
+ghost use Rattle.tokenizer.specs.Answers.{all_written, table_answer, table_after};
 
 use crate::levels::level_past;
 use crate::records::{RECORD_BYTES, put_record};
@@ -32,7 +32,7 @@ pub fn count_tokens(statement: &[u8], settings: Settings) -> usize
 }
 
 fn write_tokens(statement: &[u8], settings: Settings, table: &mut [u8]) -> Totals
-    requires { length (tokens settings statement.now) * recordBytes ≤ length table.old }
+    requires { length (tokens settings statement.now) * record_bytes ≤ length table.old }
     ensures value { result ≡ totals (tokens settings statement.now) }
     ensures table_after { table.new ≡ written (tokens settings statement.now) table.old }
 {
@@ -62,7 +62,7 @@ fn write_tokens(statement: &[u8], settings: Settings, table: &mut [u8]) -> Total
 }
 
 fn all_written(totals: Totals) -> TableAnswer
-    ensures { result ≡ allWritten totals }
+    ensures { result ≡ all_written totals }
 {
     TableAnswer::Written {
         tokens: totals.tokens as u64,
@@ -72,8 +72,8 @@ fn all_written(totals: Totals) -> TableAnswer
 
 // Counts first: where the table is full, nothing may be written.
 fn write_counted(statement: &[u8], settings: Settings, table: &mut [u8]) -> TableAnswer
-    ensures value { result ≡ tableAnswer settings statement.now (length table.old) }
-    ensures table_after { table.new ≡ tableAfter settings statement.now table.old }
+    ensures value { result ≡ table_answer settings statement.now (length table.old) }
+    ensures table_after { table.new ≡ table_after settings statement.now table.old }
 {
     let count = count_tokens(statement, settings);
     if table.len() / RECORD_BYTES < count {
@@ -84,8 +84,8 @@ fn write_counted(statement: &[u8], settings: Settings, table: &mut [u8]) -> Tabl
 
 // With a record for each byte of the statement no table is full, since every token has a byte: one pass is enough.
 pub fn write_table(statement: &[u8], settings: Settings, table: &mut [u8]) -> TableAnswer
-    ensures value { result ≡ tableAnswer settings statement.now (length table.old) }
-    ensures table_after { table.new ≡ tableAfter settings statement.now table.old }
+    ensures value { result ≡ table_answer settings statement.now (length table.old) }
+    ensures table_after { table.new ≡ table_after settings statement.now table.old }
 {
     if table.len() / RECORD_BYTES < statement.len() {
         return write_counted(statement, settings, table);

@@ -1,6 +1,6 @@
 // `tokenize`: the tokens of a statement, into a table that the caller lends.
 ghost use Rattle.std.specs.Prelude.{◌≡◌, length};
-ghost use Rattle.tokenizer.specs.Answers.{tokenizeAnswer, tokenizeRecords};
+ghost use Rattle.tokenizer.specs.Answers.{tokenize_answer, tokenize_records};
 
 use crate::TableAnswer;
 use crate::table::write_table;
@@ -13,8 +13,8 @@ pub fn tokenize(
     named: u64,
     records: &mut [u8],
 ) -> TableAnswer
-    ensures value { result ≡ tokenizeAnswer statement.now dialect joins named (length records.old) }
-    ensures records_after { records.new ≡ tokenizeRecords statement.now dialect joins named records.old }
+    ensures value { result ≡ tokenize_answer statement.now dialect joins named (length records.old) }
+    ensures records_after { records.new ≡ tokenize_records statement.now dialect joins named records.old }
 {
     match check(statement, dialect, joins, named) {
         Checked::Accepted(settings) => write_table(statement, settings, records),

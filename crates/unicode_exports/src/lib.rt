@@ -3,16 +3,16 @@
 #![tactic(auto)]
 
 ghost use Rattle.std.specs.Prelude.{◌≡◌, length, drop};
-ghost use Rattle.characters.specs.Classes.{isWhitespace, isAlphabetic, isNumeric, isMark, isPunctuationConnector, isAlphanumeric, isWordCharacter, isPlaceholderNameCharacter};
-ghost use Rattle.characters.specs.Utf8.{firstIllFormed};
-ghost use Rattle.characters.specs.Character.{codePoint, characterLength};
-ghost use Rattle.unicode_exports.specs.Place.{placeOr};
+ghost use Rattle.characters.specs.Classes.{is_whitespace, is_alphabetic, is_numeric, is_mark, is_punctuation_connector, is_alphanumeric, is_word_character, is_placeholder_name_character};
+ghost use Rattle.characters.specs.Utf8.{first_ill_formed};
+ghost use Rattle.characters.specs.Character.{code_point, character_length};
+ghost use Rattle.unicode_exports.specs.Place.{place_or};
 
 use characters::IllFormed;
 
 #[unsafe(no_mangle)]
 pub extern "C" fn unicode_first_ill_formed(text: &[u8]) -> usize
-    ensures { result ≡ placeOr (firstIllFormed text.now) (length text.now) }
+    ensures { result ≡ place_or (first_ill_formed text.now) (length text.now) }
 {
     match characters::first_ill_formed(text) {
         IllFormed::At(place) => place,
@@ -22,7 +22,7 @@ pub extern "C" fn unicode_first_ill_formed(text: &[u8]) -> usize
 
 #[unsafe(no_mangle)]
 pub extern "C" fn unicode_code_point(text: &[u8], at: usize) -> u32
-    ensures { result ≡ codePoint (drop at text.now) }
+    ensures { result ≡ code_point (drop at text.now) }
 {
     let c = characters::character_at(text, at);
     c.code_point
@@ -30,7 +30,7 @@ pub extern "C" fn unicode_code_point(text: &[u8], at: usize) -> u32
 
 #[unsafe(no_mangle)]
 pub extern "C" fn unicode_character_length(text: &[u8], at: usize) -> usize
-    ensures { result ≡ characterLength (drop at text.now) }
+    ensures { result ≡ character_length (drop at text.now) }
 {
     let c = characters::character_at(text, at);
     c.len
@@ -38,56 +38,56 @@ pub extern "C" fn unicode_character_length(text: &[u8], at: usize) -> usize
 
 #[unsafe(no_mangle)]
 pub extern "C" fn unicode_is_whitespace(c: u32) -> bool
-    ensures { result ≡ isWhitespace c }
+    ensures { result ≡ is_whitespace c }
 {
     characters::is_whitespace(c)
 }
 
 #[unsafe(no_mangle)]
 pub extern "C" fn unicode_is_alphabetic(c: u32) -> bool
-    ensures { result ≡ isAlphabetic c }
+    ensures { result ≡ is_alphabetic c }
 {
     characters::is_alphabetic(c)
 }
 
 #[unsafe(no_mangle)]
 pub extern "C" fn unicode_is_numeric(c: u32) -> bool
-    ensures { result ≡ isNumeric c }
+    ensures { result ≡ is_numeric c }
 {
     characters::is_numeric(c)
 }
 
 #[unsafe(no_mangle)]
 pub extern "C" fn unicode_is_mark(c: u32) -> bool
-    ensures { result ≡ isMark c }
+    ensures { result ≡ is_mark c }
 {
     characters::is_mark(c)
 }
 
 #[unsafe(no_mangle)]
 pub extern "C" fn unicode_is_punctuation_connector(c: u32) -> bool
-    ensures { result ≡ isPunctuationConnector c }
+    ensures { result ≡ is_punctuation_connector c }
 {
     characters::is_punctuation_connector(c)
 }
 
 #[unsafe(no_mangle)]
 pub extern "C" fn unicode_is_alphanumeric(c: u32) -> bool
-    ensures { result ≡ isAlphanumeric c }
+    ensures { result ≡ is_alphanumeric c }
 {
     characters::is_alphanumeric(c)
 }
 
 #[unsafe(no_mangle)]
 pub extern "C" fn unicode_is_word_character(c: u32) -> bool
-    ensures { result ≡ isWordCharacter c }
+    ensures { result ≡ is_word_character c }
 {
     characters::is_word_character(c)
 }
 
 #[unsafe(no_mangle)]
 pub extern "C" fn unicode_is_placeholder_name_character(c: u32) -> bool
-    ensures { result ≡ isPlaceholderNameCharacter c }
+    ensures { result ≡ is_placeholder_name_character c }
 {
     characters::is_placeholder_name_character(c)
 }

@@ -3,10 +3,10 @@
 
 ghost use Rattle.std.specs.Prelude.{◌≡◌, min, ◌+◌, ◌*◌, ◌^◌, ◌<◌, length};
 ghost use Rattle.tokenizer.specs.declared.TableAnswer.TheVariants.{Written, Refused};
-ghost use Rattle.tokenizer.specs.Answers.{tokenizeAnswer, tokenizeRecords};
-ghost use Rattle.tight.specs.Answers.{tightenAnswer, tightenOutput};
-ghost use Rattle.params.specs.Answers.{fillAnswer, fillOutput};
-ghost use Rattle.ventpeeler.specs.Packed.{packed, packedTable, packedText};
+ghost use Rattle.tokenizer.specs.Answers.{tokenize_answer, tokenize_records};
+ghost use Rattle.tight.specs.Answers.{tighten_answer, tighten_output};
+ghost use Rattle.params.specs.Answers.{fill_answer, fill_output};
+ghost use Rattle.ventpeeler.specs.Packed.{packed, packed_table, packed_text};
 
 use calls::{Refusal, TextAnswer, refusal_detail, refusal_number, text_detail, text_number};
 use params::fill;
@@ -32,19 +32,19 @@ fn pack(number: u64, detail: u64) -> u64
 
 fn pack_written(tokens: u64, escaped: u64) -> u64
     requires { escaped * 4294967296 + tokens < 2 ^ 64 }
-    ensures { result ≡ packedTable (Written tokens escaped) }
+    ensures { result ≡ packed_table (Written tokens escaped) }
 {
     pack(0, escaped * 4294967296 + tokens)
 }
 
 fn pack_refusal(refusal: Refusal) -> u64
-    ensures { result ≡ packedTable (Refused refusal) }
+    ensures { result ≡ packed_table (Refused refusal) }
 {
     pack(refusal_number(refusal), refusal_detail(refusal))
 }
 
 fn pack_text(answer: TextAnswer) -> u64
-    ensures { result ≡ packedText answer }
+    ensures { result ≡ packed_text answer }
 {
     pack(text_number(answer), text_detail(answer))
 }
@@ -57,8 +57,8 @@ pub extern "C" fn ventpeeler_tokenize(
     named: u64,
     records: &mut [u8],
 ) -> u64
-    ensures value { result ≡ packedTable (tokenizeAnswer statement.now dialect joins named (length records.old)) }
-    ensures records_after { records.new ≡ tokenizeRecords statement.now dialect joins named records.old }
+    ensures value { result ≡ packed_table (tokenize_answer statement.now dialect joins named (length records.old)) }
+    ensures records_after { records.new ≡ tokenize_records statement.now dialect joins named records.old }
 {
     let answer = tokenize(statement, dialect, joins, named, records);
     match answer {
@@ -75,8 +75,8 @@ pub extern "C" fn ventpeeler_tighten(
     named: u64,
     output: &mut [u8],
 ) -> u64
-    ensures value { result ≡ packedText (tightenAnswer statement.now dialect joins named (length output.old)) }
-    ensures output_after { output.new ≡ tightenOutput statement.now dialect joins named output.old }
+    ensures value { result ≡ packed_text (tighten_answer statement.now dialect joins named (length output.old)) }
+    ensures output_after { output.new ≡ tighten_output statement.now dialect joins named output.old }
 {
     let answer = tighten(statement, dialect, joins, named, output);
     pack_text(answer)
@@ -91,8 +91,8 @@ pub extern "C" fn ventpeeler_fill(
     sheet: &[u8],
     output: &mut [u8],
 ) -> u64
-    ensures value { result ≡ packedText (fillAnswer statement.now dialect joins named sheet.now (length output.old)) }
-    ensures output_after { output.new ≡ fillOutput statement.now dialect joins named sheet.now output.old }
+    ensures value { result ≡ packed_text (fill_answer statement.now dialect joins named sheet.now (length output.old)) }
+    ensures output_after { output.new ≡ fill_output statement.now dialect joins named sheet.now output.old }
 {
     let answer = fill(statement, dialect, joins, named, sheet, output);
     pack_text(answer)

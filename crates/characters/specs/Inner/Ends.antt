@@ -1,15 +1,15 @@
 -- For inner contracts alone: ranges as an array holds them, each range's first code point and the one past its last.
 use Rattle.std.specs.Prelude.{ℕ, suc, ◌≤◌, ◌<◌, Bool, true, false, ◌&&◌, ◌||◌, List, [], ◌∷◌, leb, ltb, length, get_or}
 
-unfoldable pub endsOf : List (ℕ × ℕ) → List ℕ
-endsOf [] = []
-endsOf (range ∷ ranges) = range.0 ∷ suc range.1 ∷ endsOf ranges
+unfoldable pub ends_of : List (ℕ × ℕ) → List ℕ
+ends_of [] = []
+ends_of (range ∷ ranges) = range.0 ∷ suc range.1 ∷ ends_of ranges
 
 -- c lies in one of the ranges that the ends bound
-unfoldable pub inEnds : List ℕ → ℕ → Bool
-inEnds [] c = false
-inEnds (first ∷ []) c = leb first c
-inEnds (first ∷ past ∷ ends) c = (leb first c && ltb c past) || inEnds ends c
+unfoldable pub in_ends : List ℕ → ℕ → Bool
+in_ends [] c = false
+in_ends (first ∷ []) c = leb first c
+in_ends (first ∷ past ∷ ends) c = (leb first c && ltb c past) || in_ends ends c
 
 -- no end is above the next
 unfoldable pub ascending : List ℕ → Bool

@@ -1,8 +1,8 @@
 use Rattle.std.proofs.Common.{IfSome, OnOk, length, ◌≡◌, ◌≤◌, arith, take, sym, ◌∙◌, subst}
 use Rattle.std.specs.Io.KnownBytes.{Appends}
-use Rattle.filling.specs.Input.{sheetOf}
-use Rattle.filling.specs.Printed.{fillPrinted}
-use Rattle.filling.proofs.Whole.{fill-whole, whole-input}
+use Rattle.filling.specs.Input.{sheet_of}
+use Rattle.filling.specs.Printed.{fill_printed}
+use Rattle.filling.proofs.Whole.{fill_whole, whole_input}
 use Rattle.filling.proofs.answer.Goals as goal
 
 pub returns : goal.returns
@@ -14,9 +14,9 @@ returns g c =
     let room : length c.read_sheet.new.kept ≡ 65537 = c.read_sheet.auto.kept ∙ sym c.text_space-sheet.ensures in
     let space : length c.read_text.new.space ≡ 65537 = c.read_text.auto.space ∙ sym c.text_space-statement.ensures in
     let four : 4 ≤ length c.read_sheet.new.kept = omega (arith, room) in
-    whole-input _ (g.R.Read.remaining c.read_sheet.new.input) c.print_filled.result (λ s whole. Appends before after (fillPrinted s whole 131072)) sheet statement 65537
-    (subst (λ m. IfSome (g.R.Read.remaining c.args.input.now) (λ xs. sheet ≡ take m (sheetOf xs))) room (c.in_ok-sheet_len.ensures.sheet four))
+    whole_input _ (g.R.Read.remaining c.read_sheet.new.input) c.print_filled.result (λ s whole. Appends before after (fill_printed s whole 131072)) sheet statement 65537
+    (subst (λ m. IfSome (g.R.Read.remaining c.args.input.now) (λ xs. sheet ≡ take m (sheet_of xs))) room (c.in_ok-sheet_len.ensures.sheet four))
     (c.in_ok-sheet_len.ensures.statement four)
     (subst (λ m. IfSome (g.R.Read.remaining c.read_sheet.new.input) (λ xs. statement ≡ take m xs)) space c.in_ok-len.ensures.text)
-    (λ s whole shown. subst (Appends before after) (fill-whole s whole 131072) shown)
-    (subst (λ m. OnOk c.print_filled.result (Appends before after (fillPrinted statement sheet m))) (sym c.output_space-space.ensures) c.print_filled.ensures)
+    (λ s whole shown. subst (Appends before after) (fill_whole s whole 131072) shown)
+    (subst (λ m. OnOk c.print_filled.result (Appends before after (fill_printed statement sheet m))) (sym c.output_space-space.ensures) c.print_filled.ensures)

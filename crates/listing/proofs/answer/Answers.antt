@@ -1,8 +1,8 @@
 use Rattle.std.proofs.Common.{IfSome, length, ◌≡◌, take, sym, ◌∙◌, subst}
 use Rattle.std.specs.Io.KnownBytes.{Appends}
-use Rattle.console.proofs.Whole.{whole-input}
-use Rattle.listing.specs.Printed.{listingPrinted}
-use Rattle.listing.proofs.Statements.{listing-whole}
+use Rattle.console.proofs.Whole.{whole_input}
+use Rattle.listing.specs.Printed.{listing_printed}
+use Rattle.listing.proofs.Statements.{listing_whole}
 use Rattle.listing.proofs.answer.Goals as goal
 
 pub returns : goal.returns
@@ -11,6 +11,6 @@ returns g c =
     let after = g.W.Write.contents c.print_listing.new.output in
     let kept = take c.in_ok-n.n c.read_text.new.space in
     let room : length c.read_text.new.space ≡ 65537 = c.read_text.auto.space ∙ sym c.text_space-space.ensures in
-    whole-input _ c.print_listing.result (λ s. Appends before after (listingPrinted s)) kept 65537
+    whole_input _ c.print_listing.result (λ s. Appends before after (listing_printed s)) kept 65537
     (subst (λ m. IfSome (g.R.Read.remaining c.args.input.now) (λ xs. kept ≡ take m xs)) room c.in_ok-n.ensures.text)
-    (λ xs shown. subst (Appends before after) (listing-whole xs) shown) c.print_listing.ensures
+    (λ xs shown. subst (Appends before after) (listing_whole xs) shown) c.print_listing.ensures

@@ -1,14 +1,14 @@
 use Rattle.std.proofs.Common.{OnOk, sym, ◌∙◌, subst}
 use Rattle.std.specs.Io.KnownBytes.{Appends}
-use Rattle.listing.proofs.Statements.{printed-accepted, printed-refused}
+use Rattle.listing.proofs.Statements.{printed_accepted, printed_refused}
 use Rattle.listing.proofs.print_listing.Goals as goal
 
 pub returns-in-Accepted : goal.returns-in-Accepted
 returns-in-Accepted g c =
     subst (λ text. OnOk c.print_list.result (Appends (g.W.Write.contents c.args.output.now) (g.W.Write.contents c.print_list.new.output) text))
-    (printed-accepted c.args.statement.now _ (sym c.in-Accepted.is ∙ c.check.ensures)) c.print_list.ensures
+    (printed_accepted c.args.statement.now _ (sym c.in-Accepted.is ∙ c.check.ensures)) c.print_list.ensures
 
 pub returns-in-Refused : goal.returns-in-Refused
 returns-in-Refused g c =
     subst (λ text. OnOk c.print_refusal.result (Appends (g.W.Write.contents c.args.output.now) (g.W.Write.contents c.print_refusal.new.output) text))
-    (printed-refused c.args.statement.now _ (sym c.in-Refused.is ∙ c.check.ensures)) c.print_refusal.ensures
+    (printed_refused c.args.statement.now _ (sym c.in-Refused.is ∙ c.check.ensures)) c.print_refusal.ensures

@@ -11,9 +11,9 @@ PartInside s sheet (Statement start len) = start + len ≤ length s
 PartInside s sheet (Sheet start len) = start + len ≤ length sheet
 
 -- where the bytes of a key's text end, with the closing quote where escapes are to be undone
-abbrev pub keyEnd : Key → ℕ
-keyEnd None = 0
-keyEnd (Named start len) = start + len
-keyEnd (Escaped start len) = start + len + 1
-keyEnd (ZeroIndexed n) = 0
-keyEnd (OneIndexed n) = 0
+abbrev pub key_end : Key → ℕ
+key_end None = 0
+key_end (Named start len) = start + len
+key_end (Escaped start len) = start + len + 1
+key_end (ZeroIndexed n) = 0
+key_end (OneIndexed n) = 0

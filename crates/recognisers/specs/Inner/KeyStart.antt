@@ -3,9 +3,9 @@ use Rattle.std.specs.Prelude.{ℕ}
 use Rattle.recognisers.specs.declared.Key.{Key}
 use Rattle.recognisers.specs.declared.Key.TheVariants.{None, Named, Escaped, ZeroIndexed, OneIndexed}
 
-abbrev pub keyStart : Key → ℕ
-keyStart None = 0
-keyStart (Named start len) = start
-keyStart (Escaped start len) = start
-keyStart (ZeroIndexed n) = 0
-keyStart (OneIndexed n) = 0
+abbrev pub key_start : Key → ℕ
+key_start None = 0
+key_start (Named start len) = start
+key_start (Escaped start len) = start
+key_start (ZeroIndexed n) = 0
+key_start (OneIndexed n) = 0

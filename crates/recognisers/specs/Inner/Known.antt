@@ -3,14 +3,14 @@
 use Rattle.std.specs.Prelude.{ℕ, ◌≤◌, ◌≡◌, false, List, length, drop, get_or}
 use Rattle.recognisers.specs.declared.Taken.TheVariants.{Fails}
 use Rattle.recognisers.specs.Text.{byte, bytes}
-use Rattle.recognisers.specs.Taking.{Taker, startsWith}
-use Rattle.recognisers.specs.Comment.{tillLineEnding}
-use Rattle.recognisers.specs.Placeholder.{throughBrace}
-use Rattle.recognisers.specs.Strings.{takeTillEscaping}
+use Rattle.recognisers.specs.Taking.{Taker, starts_with}
+use Rattle.recognisers.specs.Comment.{till_line_ending}
+use Rattle.recognisers.specs.Placeholder.{through_brace}
+use Rattle.recognisers.specs.Strings.{take_till_escaping}
 
 -- of the rests of s, those of at most `known` bytes that do not start with the quote lack their closing quote
 pub record Known (desired : ℕ) (escapes s : List ℕ) (known : ℕ) : Type 0 where
-  pub fails : (q : ℕ) → length (drop q s) ≤ known → startsWith desired (drop q s) ≡ false → takeTillEscaping desired escapes false (drop q s) ≡ Fails
+  pub fails : (q : ℕ) → length (drop q s) ≤ known → starts_with desired (drop q s) ≡ false → take_till_escaping desired escapes false (drop q s) ≡ Fails
 
 -- the taker fails on the rests of s that have from `least` to `most` bytes
 pub record Barren (taker : Taker) (s : List ℕ) (least most : ℕ) : Type 0 where
@@ -22,8 +22,8 @@ pub record Truths (hints s : List ℕ) : Type 0 where
   pub square : Known (byte "]") (bytes "]") s (get_or hints 0 0)
   pub double : Known (byte "\"") (bytes "\"\\") s (get_or hints 1 0)
   pub single : Known (byte "'") (bytes "'\\") s (get_or hints 2 0)
-  pub brace : Barren throughBrace s 0 (get_or hints 3 0)
-  pub line : Barren tillLineEnding s (get_or hints 4 0) (get_or hints 5 0)
+  pub brace : Barren through_brace s 0 (get_or hints 3 0)
+  pub line : Barren till_line_ending s (get_or hints 4 0) (get_or hints 5 0)
 
 -- shut where hints are only passed on
 unfoldable pub Truthful : List ℕ → List ℕ → Type 0

@@ -1,19 +1,19 @@
 -- The parts one token after the other: whether one ends with a token, and where the next one starts.
 use Rattle.std.specs.Prelude.{ℕ, Bool, ◌||◌, ◌+◌, cond, List, [], ◌∷◌, eqb, length}
 use Rattle.tokenizer.specs.declared.Token.{Token}
-use Rattle.script.specs.Cuts.{isCut}
+use Rattle.script.specs.Cuts.{is_cut}
 use Rattle.script.specs.Parts.{Part, between}
 
 -- with a token that cuts, and with the last one
-unfoldable pub endsPart : List ℕ → Token → Bool
-endsPart s t = isCut s t || eqb (t.start + t.len) (length s)
+unfoldable pub ends_part : List ℕ → Token → Bool
+ends_part s t = is_cut s t || eqb (t.start + t.len) (length s)
 
 -- the part that ends with a token, where one does
-unfoldable pub endedAt : List ℕ → ℕ → Token → List Part
-endedAt s from t = cond (endsPart s t) (between from (t.start + t.len) ∷ []) []
+unfoldable pub ended_at : List ℕ → ℕ → Token → List Part
+ended_at s from t = cond (ends_part s t) (between from (t.start + t.len) ∷ []) []
 
-unfoldable pub endedCount : List ℕ → Token → ℕ
-endedCount s t = cond (endsPart s t) 1 0
+unfoldable pub ended_count : List ℕ → Token → ℕ
+ended_count s t = cond (ends_part s t) 1 0
 
-unfoldable pub startPast : List ℕ → ℕ → Token → ℕ
-startPast s from t = cond (endsPart s t) (t.start + t.len) from
+unfoldable pub start_past : List ℕ → ℕ → Token → ℕ
+start_past s from t = cond (ends_part s t) (t.start + t.len) from

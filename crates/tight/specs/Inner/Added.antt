@@ -6,21 +6,21 @@ use Rattle.tight.specs.declared.Gap.{Gap}
 use Rattle.tight.specs.declared.Gap.TheVariants.{Nothing}
 use Rattle.tight.specs.declared.Place.TheVariants.{First, Behind}
 use Rattle.tight.specs.declared.Spacing.{Spacing}
-use Rattle.tight.specs.TightText.{isGap, becomes, gapBytes}
+use Rattle.tight.specs.TightText.{is_gap, becomes, gap_bytes}
 
 -- a gap adds nothing of its own
 unfoldable pub added : List ℕ → Gap → Token → List ℕ
-added s lead t = cond (isGap t) [] (gapBytes lead ++ value s t)
+added s lead t = cond (is_gap t) [] (gap_bytes lead ++ value s t)
 
-unfoldable pub addedLength : Gap → Token → ℕ
-addedLength lead t = cond (isGap t) 0 (length (gapBytes lead) + t.len)
+unfoldable pub added_length : Gap → Token → ℕ
+added_length lead t = cond (is_gap t) 0 (length (gap_bytes lead) + t.len)
 
 -- before the first token
 abbrev pub outside : Spacing
 outside = record { here = First; lead = Nothing }
 
-unfoldable pub spacingPast : List ℕ → Spacing → Token → Spacing
-spacingPast s spacing t =
-    cond (isGap t)
+unfoldable pub spacing_past : List ℕ → Spacing → Token → Spacing
+spacing_past s spacing t =
+    cond (is_gap t)
     (record { here = spacing.here; lead = becomes spacing.here (value s t) })
     (record { here = Behind t.kind; lead = Nothing })

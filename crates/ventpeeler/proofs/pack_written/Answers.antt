@@ -1,5 +1,5 @@
-use Rattle.ventpeeler.proofs.Packing.{written-packed}
+use Rattle.ventpeeler.proofs.Packing.{written_packed}
 use Rattle.ventpeeler.proofs.pack_written.Goals as goal
 
 pub returns : goal.returns
-returns c = search written-packed
+returns c = search written_packed

@@ -1,11 +1,11 @@
-use Rattle.calls.proofs.Checks.{overlong-refused, ill-formed-refused, text-accepted}
+use Rattle.calls.proofs.Checks.{overlong_refused, ill_formed_refused, text_accepted}
 use Rattle.calls.proofs.checking.check_text.Goals as goal
 
 pub returns-then-statement-gt65536 : goal.returns-then-statement-gt65536
-returns-then-statement-gt65536 c = search overlong-refused
+returns-then-statement-gt65536 c = search overlong_refused
 
 pub returns-in-At : goal.returns-in-At
-returns-in-At c = search ill-formed-refused
+returns-in-At c = search ill_formed_refused
 
 pub returns-in-Nowhere : goal.returns-in-Nowhere
-returns-in-Nowhere c = search text-accepted
+returns-in-Nowhere c = search text_accepted

@@ -1,15 +1,15 @@
 use Rattle.std.proofs.Common.{rules}
-use Rattle.calls.specs.Settings.{isSetting}
+use Rattle.calls.specs.Settings.{is_setting}
 use Rattle.calls.proofs.checking.is_setting.Goals as goal
 
 pub returns-then-dialect-gt2 : goal.returns-then-dialect-gt2
-unfolding isSetting
+unfolding is_setting
 returns-then-dialect-gt2 c = search rules
 
 pub returns-then-joins-gt1 : goal.returns-then-joins-gt1
-unfolding isSetting
+unfolding is_setting
 returns-then-joins-gt1 c = search rules
 
 pub returns : goal.returns
-unfolding isSetting
+unfolding is_setting
 returns c = search rules

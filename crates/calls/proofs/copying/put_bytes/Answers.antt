@@ -1,5 +1,5 @@
-use Rattle.calls.proofs.Storing.{copy-put}
+use Rattle.calls.proofs.Storing.{copy_put}
 use Rattle.calls.proofs.copying.put_bytes.Goals as goal
 
 pub returns : goal.returns
-returns c = copy-put _ _ _ _ c.requires c.copy_from_slice.ensures.after
+returns c = copy_put _ _ _ _ c.requires c.copy_from_slice.ensures.after

@@ -1,20 +1,20 @@
-use Rattle.characters.specs.Ranges.{inRanges}
-use Rattle.characters.specs.Inner.CommonLetters.{easternLetters}
-use Rattle.characters.proofs.ShortCircuit.{or-first, or-second, or-last}
+use Rattle.characters.specs.Ranges.{in_ranges}
+use Rattle.characters.specs.Inner.CommonLetters.{eastern_letters}
+use Rattle.characters.proofs.ShortCircuit.{or_first, or_second, or_last}
 use Rattle.characters.proofs.classes.is_eastern_letter.Goals as goal
 
 pub returns-then-within : goal.returns-then-within
-unfolding inRanges easternLetters
-returns-then-within c = search (or-first, or-second, or-last)
+unfolding in_ranges eastern_letters
+returns-then-within c = search (or_first, or_second, or_last)
 
 pub returns-then-within-2 : goal.returns-then-within-2
-unfolding inRanges easternLetters
-returns-then-within-2 c = search (or-first, or-second, or-last)
+unfolding in_ranges eastern_letters
+returns-then-within-2 c = search (or_first, or_second, or_last)
 
 pub returns-then-within-3 : goal.returns-then-within-3
-unfolding inRanges easternLetters
-returns-then-within-3 c = search (or-first, or-second, or-last)
+unfolding in_ranges eastern_letters
+returns-then-within-3 c = search (or_first, or_second, or_last)
 
 pub returns-else-within-3 : goal.returns-else-within-3
-unfolding inRanges easternLetters
-returns-else-within-3 c = search (or-first, or-second, or-last)
+unfolding in_ranges eastern_letters
+returns-else-within-3 c = search (or_first, or_second, or_last)

@@ -1,10 +1,10 @@
-use Rattle.characters.specs.Classes.{isPunctuationConnector}
-use Rattle.characters.proofs.AsciiRule.{ascii-connector}
+use Rattle.characters.specs.Classes.{is_punctuation_connector}
+use Rattle.characters.proofs.AsciiRule.{ascii_connector}
 use Rattle.characters.proofs.classes.is_punctuation_connector.Goals as goal
 
 pub returns-then-c-lt128 : goal.returns-then-c-lt128
-returns-then-c-lt128 c = search ascii-connector
+returns-then-c-lt128 c = search ascii_connector
 
 pub returns : goal.returns
-unfolding isPunctuationConnector
+unfolding is_punctuation_connector
 returns c = c.contains.ensures

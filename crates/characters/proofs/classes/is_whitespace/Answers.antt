@@ -1,10 +1,10 @@
-use Rattle.characters.specs.Classes.{isWhitespace}
-use Rattle.characters.proofs.AsciiRule.{ascii-whitespace}
+use Rattle.characters.specs.Classes.{is_whitespace}
+use Rattle.characters.proofs.AsciiRule.{ascii_whitespace}
 use Rattle.characters.proofs.classes.is_whitespace.Goals as goal
 
 pub returns-then-c-lt128 : goal.returns-then-c-lt128
-returns-then-c-lt128 c = search ascii-whitespace
+returns-then-c-lt128 c = search ascii_whitespace
 
 pub returns : goal.returns
-unfolding isWhitespace
+unfolding is_whitespace
 returns c = c.contains.ensures

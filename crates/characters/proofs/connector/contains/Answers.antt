@@ -2,12 +2,12 @@
 -- Assumes nothing.
 use native.Mathlib.Omega.{arith}
 use mathlib.Core.Path.{refl}
-use Rattle.characters.specs.Inner.Ends.{endsOf}
+use Rattle.characters.specs.Inner.Ends.{ends_of}
 use Rattle.characters.specs.Connector.{connector}
-use Rattle.characters.proofs.Ordered.{connector-ordered}
-use Rattle.characters.proofs.TableParts.{last-part-is}
+use Rattle.characters.proofs.Ordered.{connector_ordered}
+use Rattle.characters.proofs.TableParts.{last_part_is}
 use Rattle.characters.proofs.connector.contains.Goals as goal
 
 pub returns : goal.returns
-unfolding connector endsOf
-returns c = last-part-is connector connector-ordered 0 6 0x0000 refl refl _ _ (omega arith) c.in_ranges.ensures
+unfolding connector ends_of
+returns c = last_part_is connector connector_ordered 0 6 0x0000 refl refl _ _ (omega arith) c.in_ranges.ensures

@@ -1,15 +1,15 @@
 use Rattle.std.proofs.Common.{rules}
-use Rattle.characters.specs.Runs.{inClass}
+use Rattle.characters.specs.Runs.{in_class}
 use Rattle.characters.proofs.runs.contains.Goals as goal
 
 pub returns-in-Whitespace : goal.returns-in-Whitespace
-unfolding inClass
+unfolding in_class
 returns-in-Whitespace c = search rules
 
 pub returns-in-Word : goal.returns-in-Word
-unfolding inClass
+unfolding in_class
 returns-in-Word c = search rules
 
 pub returns-in-PlaceholderName : goal.returns-in-PlaceholderName
-unfolding inClass
+unfolding in_class
 returns-in-PlaceholderName c = search rules

@@ -1,11 +1,11 @@
-use Rattle.characters.proofs.RunLaws.{byte-more, byte-stop, run-end}
+use Rattle.characters.proofs.RunLaws.{byte_more, byte_stop, run_end}
 use Rattle.characters.proofs.runs.run_of.Goals as goal
 
 pub loop-i-preserved : goal.loop-i-preserved
-loop-i-preserved c = search byte-more
+loop-i-preserved c = search byte_more
 
 pub returns-then-b-lt128 : goal.returns-then-b-lt128
-returns-then-b-lt128 c = search byte-stop
+returns-then-b-lt128 c = search byte_stop
 
 pub returns : goal.returns
-returns c = search run-end
+returns c = search run_end

@@ -1,5 +1,5 @@
-use Rattle.characters.proofs.AsciiBlocks.{sixteen-are}
+use Rattle.characters.proofs.AsciiBlocks.{sixteen_are}
 use Rattle.characters.proofs.utf8.sixteen_ascii.Goals as goal
 
 pub returns : goal.returns
-returns c = search sixteen-are
+returns c = search sixteen_are

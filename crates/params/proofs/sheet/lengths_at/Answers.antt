@@ -1,21 +1,21 @@
 use Rattle.std.proofs.Common.{rules}
-use Rattle.params.proofs.SheetContents.{some-sheet, named-room, value-room, unnamed-room, named-lengths, unnamed-lengths}
+use Rattle.params.proofs.SheetContents.{some_sheet, named_room, value_room, unnamed_room, named_lengths, unnamed_lengths}
 use Rattle.params.proofs.sheet.lengths_at.Goals as goal
 
 pub is_named-requires : goal.is_named-requires
-is_named-requires c = search some-sheet
+is_named-requires c = search some_sheet
 
 pub le16_at-requires : goal.le16_at-requires
-le16_at-requires c = search named-room
+le16_at-requires c = search named_room
 
 pub le16_at-requires-then-is_named : goal.le16_at-requires-then-is_named
-le16_at-requires-then-is_named c = search value-room
+le16_at-requires-then-is_named c = search value_room
 
 pub returns-then-is_named-clause-value : goal.returns-then-is_named-clause-value
-returns-then-is_named-clause-value c = search (named-lengths, rules)
+returns-then-is_named-clause-value c = search (named_lengths, rules)
 
 pub le16_at-requires-2 : goal.le16_at-requires-2
-le16_at-requires-2 c = search unnamed-room
+le16_at-requires-2 c = search unnamed_room
 
 pub returns-clause-value : goal.returns-clause-value
-returns-clause-value c = search (unnamed-lengths, rules)
+returns-clause-value c = search (unnamed_lengths, rules)

@@ -1,6 +1,6 @@
-use Rattle.recognisers.specs.Strings.{stringPairs}
+use Rattle.recognisers.specs.Strings.{string_pairs}
 use Rattle.recognisers.proofs.escaped_quotes.string_pairs.Goals as goal
 
 pub returns : goal.returns
-unfolding stringPairs
+unfolding string_pairs
 returns c = c.pairs_in.ensures

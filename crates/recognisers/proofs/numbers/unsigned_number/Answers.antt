@@ -1,5 +1,5 @@
 use Rattle.recognisers.specs.Number.{unsigned}
-use Rattle.recognisers.proofs.FirstBytes.{no-unsigned}
+use Rattle.recognisers.proofs.FirstBytes.{no_unsigned}
 use Rattle.recognisers.proofs.numbers.unsigned_number.Goals as goal
 
 pub returns-then-starts_with_digit : goal.returns-then-starts_with_digit
@@ -7,4 +7,4 @@ unfolding unsigned
 returns-then-starts_with_digit c = cc
 
 pub returns : goal.returns
-returns c = search no-unsigned
+returns c = search no_unsigned

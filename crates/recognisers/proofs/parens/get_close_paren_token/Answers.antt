@@ -1,5 +1,5 @@
-use Rattle.recognisers.proofs.FirstBytes.{no-close}
+use Rattle.recognisers.proofs.FirstBytes.{no_close}
 use Rattle.recognisers.proofs.parens.get_close_paren_token.Goals as goal
 
 pub returns : goal.returns
-returns c = search no-close
+returns c = search no_close

@@ -1,6 +1,6 @@
-use Rattle.recognisers.specs.Placeholder.{bracedTaken}
+use Rattle.recognisers.specs.Placeholder.{braced_taken}
 use Rattle.recognisers.proofs.placeholders.braced_taken.Goals as goal
 
 pub returns : goal.returns
-unfolding bracedTaken
+unfolding braced_taken
 returns c = cc

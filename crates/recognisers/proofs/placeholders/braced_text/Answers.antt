@@ -1,16 +1,16 @@
 use Rattle.std.proofs.Common.{rules}
-use Rattle.recognisers.proofs.PlaceholderLaws.{brace-first, brace-later}
-use Rattle.recognisers.proofs.Unclosed.{hint-inside, brace-unclosed}
+use Rattle.recognisers.proofs.PlaceholderLaws.{brace_first, brace_later}
+use Rattle.recognisers.proofs.Unclosed.{hint_inside, brace_unclosed}
 use Rattle.recognisers.proofs.placeholders.braced_text.Goals as goal
 
 pub returns-then-stands_at : goal.returns-then-stands_at
-returns-then-stands_at c = search brace-first
+returns-then-stands_at c = search brace_first
 
 pub bounds-hints-3 : goal.bounds-hints-3
-bounds-hints-3 c = search (rules, hint-inside)
+bounds-hints-3 c = search (rules, hint_inside)
 
 pub returns-then-rest-hints : goal.returns-then-rest-hints
-returns-then-rest-hints c = search brace-unclosed
+returns-then-rest-hints c = search brace_unclosed
 
 pub returns : goal.returns
-returns c = search brace-later
+returns c = search brace_later

@@ -1,6 +1,6 @@
-use Rattle.recognisers.specs.Placeholder.{identTaken}
+use Rattle.recognisers.specs.Placeholder.{ident_taken}
 use Rattle.recognisers.proofs.placeholders.ident_taken.Goals as goal
 
 pub returns : goal.returns
-unfolding identTaken
+unfolding ident_taken
 returns c = cc

@@ -1,6 +1,6 @@
-use Rattle.recognisers.specs.Placeholder.{indexedTaken}
+use Rattle.recognisers.specs.Placeholder.{indexed_taken}
 use Rattle.recognisers.proofs.placeholders.indexed_taken.Goals as goal
 
 pub returns : goal.returns
-unfolding indexedTaken
+unfolding indexed_taken
 returns c = cc

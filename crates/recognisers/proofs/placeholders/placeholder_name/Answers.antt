@@ -1,7 +1,7 @@
-use Rattle.recognisers.specs.Placeholder.{placeholderName}
-use Rattle.characters.specs.Runs.{inClass}
+use Rattle.recognisers.specs.Placeholder.{placeholder_name}
+use Rattle.characters.specs.Runs.{in_class}
 use Rattle.recognisers.proofs.placeholders.placeholder_name.Goals as goal
 
 pub returns : goal.returns
-unfolding placeholderName inClass
+unfolding placeholder_name in_class
 returns c = cc

@@ -1,6 +1,6 @@
-use Rattle.recognisers.specs.Placeholder.{stringNamedTaken}
+use Rattle.recognisers.specs.Placeholder.{string_named_taken}
 use Rattle.recognisers.proofs.placeholders.string_named_taken.Goals as goal
 
 pub returns : goal.returns
-unfolding stringNamedTaken
+unfolding string_named_taken
 returns c = cc

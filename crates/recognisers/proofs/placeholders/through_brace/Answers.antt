@@ -1,11 +1,11 @@
-use Rattle.recognisers.proofs.PlaceholderLaws.{brace-here, brace-on, brace-none}
+use Rattle.recognisers.proofs.PlaceholderLaws.{brace_here, brace_on, brace_none}
 use Rattle.recognisers.proofs.placeholders.through_brace.Goals as goal
 
 pub returns-then-rest-i-eq125 : goal.returns-then-rest-i-eq125
-returns-then-rest-i-eq125 c = search brace-here
+returns-then-rest-i-eq125 c = search brace_here
 
 pub loop-i-preserved : goal.loop-i-preserved
-loop-i-preserved c = search brace-on
+loop-i-preserved c = search brace_on
 
 pub returns : goal.returns
-returns c = search brace-none
+returns c = search brace_none

@@ -1,11 +1,11 @@
 use Prim.Native.Nat.{◌-◌}
 use lib.ListN.{length}
-use Rattle.recognisers.specs.Taking.{isDigit}
+use Rattle.recognisers.specs.Taking.{is_digit}
 use Rattle.recognisers.proofs.ByteLoops.{CountAt}
 use Rattle.recognisers.proofs.scan.count_digits.Given as goal
 
 abbrev pub invariant-loop-i : goal.invariant-loop-i
-invariant-loop-i l = CountAt isDigit l.rest l.i
+invariant-loop-i l = CountAt is_digit l.rest l.i
 
 abbrev pub decreases-loop-i : goal.decreases-loop-i
 decreases-loop-i l = length l.rest - l.i

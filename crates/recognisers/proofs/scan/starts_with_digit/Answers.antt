@@ -1,9 +1,9 @@
-use Rattle.recognisers.specs.Taking.{isDigit}
-use Rattle.recognisers.proofs.ByteLoops.{none-counted, first-counted}
+use Rattle.recognisers.specs.Taking.{is_digit}
+use Rattle.recognisers.proofs.ByteLoops.{none_counted, first_counted}
 use Rattle.recognisers.proofs.scan.starts_with_digit.Goals as goal
 
 pub returns-then-rest-eq0 : goal.returns-then-rest-eq0
-returns-then-rest-eq0 c = search (none-counted isDigit)
+returns-then-rest-eq0 c = search (none_counted is_digit)
 
 pub returns : goal.returns
-returns c = search (first-counted isDigit)
+returns c = search (first_counted is_digit)

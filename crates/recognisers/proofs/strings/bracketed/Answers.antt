@@ -1,16 +1,16 @@
 use Rattle.std.proofs.Common.{rules}
 use Rattle.recognisers.specs.Text.{byte, bytes}
-use Rattle.recognisers.specs.Strings.{closedBy}
+use Rattle.recognisers.specs.Strings.{closed_by}
 use Rattle.recognisers.proofs.FirstBytes.{opened}
-use Rattle.recognisers.proofs.Unclosed.{hint-inside, square-known}
-use Rattle.recognisers.proofs.Unclosed.{hint-inside, square-known}
+use Rattle.recognisers.proofs.Unclosed.{hint_inside, square_known}
+use Rattle.recognisers.proofs.Unclosed.{hint_inside, square_known}
 use Rattle.recognisers.proofs.strings.bracketed.Goals as goal
 
 pub bounds-hints-0 : goal.bounds-hints-0
-bounds-hints-0 c = search (rules, hint-inside)
+bounds-hints-0 c = search (rules, hint_inside)
 
 pub quoted_known-requires : goal.quoted_known-requires
-quoted_known-requires c = search square-known
+quoted_known-requires c = search square_known
 
 pub returns-in-SQLServer : goal.returns-in-SQLServer
-returns-in-SQLServer c = rw c.in-SQLServer.is (search (opened (byte "[") (closedBy (byte "]") (bytes "]"))))
+returns-in-SQLServer c = rw c.in-SQLServer.is (search (opened (byte "[") (closed_by (byte "]") (bytes "]"))))

@@ -1,6 +1,6 @@
-use Rattle.recognisers.specs.Strings.{hexTaken}
+use Rattle.recognisers.specs.Strings.{hex_taken}
 use Rattle.recognisers.proofs.strings.hex_taken.Goals as goal
 
 pub returns : goal.returns
-unfolding hexTaken
+unfolding hex_taken
 returns c = cc

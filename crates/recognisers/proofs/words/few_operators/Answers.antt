@@ -1,5 +1,5 @@
-use Rattle.recognisers.proofs.ByteLoops.{count-few}
+use Rattle.recognisers.proofs.ByteLoops.{count_few}
 use Rattle.recognisers.proofs.words.few_operators.Goals as goal
 
 pub returns : goal.returns
-returns c = search (count-few)
+returns c = search (count_few)

@@ -1,7 +1,7 @@
-use Rattle.recognisers.specs.Words.{getWhitespaceToken}
-use Rattle.characters.specs.Runs.{inClass}
+use Rattle.recognisers.specs.Words.{get_whitespace_token}
+use Rattle.characters.specs.Runs.{in_class}
 use Rattle.recognisers.proofs.words.try_whitespace.Goals as goal
 
 pub returns : goal.returns
-unfolding getWhitespaceToken inClass
+unfolding get_whitespace_token in_class
 returns c = cc

@@ -5,52 +5,52 @@ use mathlib.Core.List.{List, [], ◌∷◌}
 use mathlib.Core.Path.{refl}
 use borrow.Author.Rules.{rules}
 use Rattle.characters.specs.Ranges.{within}
-use Rattle.characters.specs.Ascii.{isLetter, isAsciiWord}
+use Rattle.characters.specs.Ascii.{is_letter, is_ascii_word}
 use Rattle.recognisers.specs.Taking.{count, contains}
-use Rattle.reserved.specs.Inner.Entries.{encoded, entriesLong}
-use Rattle.reserved.proofs.LetterEntries.{entries-b, is-b}
-use Rattle.reserved.proofs.OtherLengths.{long-is, long-none}
+use Rattle.reserved.specs.Inner.Entries.{encoded, entries_long}
+use Rattle.reserved.proofs.LetterEntries.{entries_b, is_b}
+use Rattle.reserved.proofs.OtherLengths.{long_is, long_none}
 use Rattle.reserved.proofs.tables.find_b.Goals as goal
 
 pub returns-in-4-clause-value : goal.returns-in-4-clause-value
-unfolding encoded entriesLong count isAsciiWord isLetter within entries-b
-returns-in-4-clause-value c = (long-is 66 entries-b is-b _ _ c.requires 4 c.in-4.is _ _ _ _ c.find_in.ensures.value c.find_in.ensures.found_after refl).0
+unfolding encoded entries_long count is_ascii_word is_letter within entries_b
+returns-in-4-clause-value c = (long_is 66 entries_b is_b _ _ c.requires 4 c.in-4.is _ _ _ _ c.find_in.ensures.value c.find_in.ensures.found_after refl).0
 
 pub returns-in-4-clause-found_after : goal.returns-in-4-clause-found_after
-unfolding encoded entriesLong count isAsciiWord isLetter within entries-b
-returns-in-4-clause-found_after c = (long-is 66 entries-b is-b _ _ c.requires 4 c.in-4.is _ _ _ _ c.find_in.ensures.value c.find_in.ensures.found_after refl).1
+unfolding encoded entries_long count is_ascii_word is_letter within entries_b
+returns-in-4-clause-found_after c = (long_is 66 entries_b is_b _ _ c.requires 4 c.in-4.is _ _ _ _ c.find_in.ensures.value c.find_in.ensures.found_after refl).1
 
 pub returns-in-5-clause-value : goal.returns-in-5-clause-value
-unfolding encoded entriesLong count isAsciiWord isLetter within entries-b
-returns-in-5-clause-value c = (long-is 66 entries-b is-b _ _ c.requires 5 c.in-5.is _ _ _ _ c.find_in-in-5.ensures.value c.find_in-in-5.ensures.found_after refl).0
+unfolding encoded entries_long count is_ascii_word is_letter within entries_b
+returns-in-5-clause-value c = (long_is 66 entries_b is_b _ _ c.requires 5 c.in-5.is _ _ _ _ c.find_in-in-5.ensures.value c.find_in-in-5.ensures.found_after refl).0
 
 pub returns-in-5-clause-found_after : goal.returns-in-5-clause-found_after
-unfolding encoded entriesLong count isAsciiWord isLetter within entries-b
-returns-in-5-clause-found_after c = (long-is 66 entries-b is-b _ _ c.requires 5 c.in-5.is _ _ _ _ c.find_in-in-5.ensures.value c.find_in-in-5.ensures.found_after refl).1
+unfolding encoded entries_long count is_ascii_word is_letter within entries_b
+returns-in-5-clause-found_after c = (long_is 66 entries_b is_b _ _ c.requires 5 c.in-5.is _ _ _ _ c.find_in-in-5.ensures.value c.find_in-in-5.ensures.found_after refl).1
 
 pub returns-in-6-clause-value : goal.returns-in-6-clause-value
-unfolding encoded entriesLong count isAsciiWord isLetter within entries-b
-returns-in-6-clause-value c = (long-is 66 entries-b is-b _ _ c.requires 6 c.in-6.is _ _ _ _ c.find_in-in-6.ensures.value c.find_in-in-6.ensures.found_after refl).0
+unfolding encoded entries_long count is_ascii_word is_letter within entries_b
+returns-in-6-clause-value c = (long_is 66 entries_b is_b _ _ c.requires 6 c.in-6.is _ _ _ _ c.find_in-in-6.ensures.value c.find_in-in-6.ensures.found_after refl).0
 
 pub returns-in-6-clause-found_after : goal.returns-in-6-clause-found_after
-unfolding encoded entriesLong count isAsciiWord isLetter within entries-b
-returns-in-6-clause-found_after c = (long-is 66 entries-b is-b _ _ c.requires 6 c.in-6.is _ _ _ _ c.find_in-in-6.ensures.value c.find_in-in-6.ensures.found_after refl).1
+unfolding encoded entries_long count is_ascii_word is_letter within entries_b
+returns-in-6-clause-found_after c = (long_is 66 entries_b is_b _ _ c.requires 6 c.in-6.is _ _ _ _ c.find_in-in-6.ensures.value c.find_in-in-6.ensures.found_after refl).1
 
 pub returns-in-7-clause-value : goal.returns-in-7-clause-value
-unfolding encoded entriesLong count isAsciiWord isLetter within entries-b
-returns-in-7-clause-value c = (long-is 66 entries-b is-b _ _ c.requires 7 c.in-7.is _ _ _ _ c.find_in-in-7.ensures.value c.find_in-in-7.ensures.found_after refl).0
+unfolding encoded entries_long count is_ascii_word is_letter within entries_b
+returns-in-7-clause-value c = (long_is 66 entries_b is_b _ _ c.requires 7 c.in-7.is _ _ _ _ c.find_in-in-7.ensures.value c.find_in-in-7.ensures.found_after refl).0
 
 pub returns-in-7-clause-found_after : goal.returns-in-7-clause-found_after
-unfolding encoded entriesLong count isAsciiWord isLetter within entries-b
-returns-in-7-clause-found_after c = (long-is 66 entries-b is-b _ _ c.requires 7 c.in-7.is _ _ _ _ c.find_in-in-7.ensures.value c.find_in-in-7.ensures.found_after refl).1
+unfolding encoded entries_long count is_ascii_word is_letter within entries_b
+returns-in-7-clause-found_after c = (long_is 66 entries_b is_b _ _ c.requires 7 c.in-7.is _ _ _ _ c.find_in-in-7.ensures.value c.find_in-in-7.ensures.found_after refl).1
 
 lengths : List ℕ
 lengths = 4 ∷ 5 ∷ 6 ∷ 7 ∷ []
 
 pub returns-in_default-clause-value : goal.returns-in_default-clause-value
-unfolding lengths contains count isAsciiWord isLetter within entries-b
-returns-in_default-clause-value c = (long-none 66 entries-b is-b _ _ c.requires lengths c.args.found.now refl (search rules)).0
+unfolding lengths contains count is_ascii_word is_letter within entries_b
+returns-in_default-clause-value c = (long_none 66 entries_b is_b _ _ c.requires lengths c.args.found.now refl (search rules)).0
 
 pub returns-in_default-clause-found_after : goal.returns-in_default-clause-found_after
-unfolding lengths contains count isAsciiWord isLetter within entries-b
-returns-in_default-clause-found_after c = (long-none 66 entries-b is-b _ _ c.requires lengths c.args.found.now refl (search rules)).1
+unfolding lengths contains count is_ascii_word is_letter within entries_b
+returns-in_default-clause-found_after c = (long_none 66 entries_b is_b _ _ c.requires lengths c.args.found.now refl (search rules)).1

@@ -5,100 +5,100 @@ use mathlib.Core.List.{List, [], ◌∷◌}
 use mathlib.Core.Path.{refl}
 use borrow.Author.Rules.{rules}
 use Rattle.characters.specs.Ranges.{within}
-use Rattle.characters.specs.Ascii.{isLetter, isAsciiWord}
+use Rattle.characters.specs.Ascii.{is_letter, is_ascii_word}
 use Rattle.recognisers.specs.Taking.{count, contains}
-use Rattle.reserved.specs.Inner.Entries.{encoded, entriesLong}
-use Rattle.reserved.proofs.LetterEntries.{entries-d, is-d}
-use Rattle.reserved.proofs.OtherLengths.{long-is, long-none}
+use Rattle.reserved.specs.Inner.Entries.{encoded, entries_long}
+use Rattle.reserved.proofs.LetterEntries.{entries_d, is_d}
+use Rattle.reserved.proofs.OtherLengths.{long_is, long_none}
 use Rattle.reserved.proofs.tables.find_d.Goals as goal
 
 pub returns-in-2-clause-value : goal.returns-in-2-clause-value
-unfolding encoded entriesLong count isAsciiWord isLetter within entries-d
-returns-in-2-clause-value c = (long-is 68 entries-d is-d _ _ c.requires 2 c.in-2.is _ _ _ _ c.find_in.ensures.value c.find_in.ensures.found_after refl).0
+unfolding encoded entries_long count is_ascii_word is_letter within entries_d
+returns-in-2-clause-value c = (long_is 68 entries_d is_d _ _ c.requires 2 c.in-2.is _ _ _ _ c.find_in.ensures.value c.find_in.ensures.found_after refl).0
 
 pub returns-in-2-clause-found_after : goal.returns-in-2-clause-found_after
-unfolding encoded entriesLong count isAsciiWord isLetter within entries-d
-returns-in-2-clause-found_after c = (long-is 68 entries-d is-d _ _ c.requires 2 c.in-2.is _ _ _ _ c.find_in.ensures.value c.find_in.ensures.found_after refl).1
+unfolding encoded entries_long count is_ascii_word is_letter within entries_d
+returns-in-2-clause-found_after c = (long_is 68 entries_d is_d _ _ c.requires 2 c.in-2.is _ _ _ _ c.find_in.ensures.value c.find_in.ensures.found_after refl).1
 
 pub returns-in-3-clause-value : goal.returns-in-3-clause-value
-unfolding encoded entriesLong count isAsciiWord isLetter within entries-d
-returns-in-3-clause-value c = (long-is 68 entries-d is-d _ _ c.requires 3 c.in-3.is _ _ _ _ c.find_in-in-3.ensures.value c.find_in-in-3.ensures.found_after refl).0
+unfolding encoded entries_long count is_ascii_word is_letter within entries_d
+returns-in-3-clause-value c = (long_is 68 entries_d is_d _ _ c.requires 3 c.in-3.is _ _ _ _ c.find_in-in-3.ensures.value c.find_in-in-3.ensures.found_after refl).0
 
 pub returns-in-3-clause-found_after : goal.returns-in-3-clause-found_after
-unfolding encoded entriesLong count isAsciiWord isLetter within entries-d
-returns-in-3-clause-found_after c = (long-is 68 entries-d is-d _ _ c.requires 3 c.in-3.is _ _ _ _ c.find_in-in-3.ensures.value c.find_in-in-3.ensures.found_after refl).1
+unfolding encoded entries_long count is_ascii_word is_letter within entries_d
+returns-in-3-clause-found_after c = (long_is 68 entries_d is_d _ _ c.requires 3 c.in-3.is _ _ _ _ c.find_in-in-3.ensures.value c.find_in-in-3.ensures.found_after refl).1
 
 pub returns-in-4-clause-value : goal.returns-in-4-clause-value
-unfolding encoded entriesLong count isAsciiWord isLetter within entries-d
-returns-in-4-clause-value c = (long-is 68 entries-d is-d _ _ c.requires 4 c.in-4.is _ _ _ _ c.find_in-in-4.ensures.value c.find_in-in-4.ensures.found_after refl).0
+unfolding encoded entries_long count is_ascii_word is_letter within entries_d
+returns-in-4-clause-value c = (long_is 68 entries_d is_d _ _ c.requires 4 c.in-4.is _ _ _ _ c.find_in-in-4.ensures.value c.find_in-in-4.ensures.found_after refl).0
 
 pub returns-in-4-clause-found_after : goal.returns-in-4-clause-found_after
-unfolding encoded entriesLong count isAsciiWord isLetter within entries-d
-returns-in-4-clause-found_after c = (long-is 68 entries-d is-d _ _ c.requires 4 c.in-4.is _ _ _ _ c.find_in-in-4.ensures.value c.find_in-in-4.ensures.found_after refl).1
+unfolding encoded entries_long count is_ascii_word is_letter within entries_d
+returns-in-4-clause-found_after c = (long_is 68 entries_d is_d _ _ c.requires 4 c.in-4.is _ _ _ _ c.find_in-in-4.ensures.value c.find_in-in-4.ensures.found_after refl).1
 
 pub returns-in-6-clause-value : goal.returns-in-6-clause-value
-unfolding encoded entriesLong count isAsciiWord isLetter within entries-d
-returns-in-6-clause-value c = (long-is 68 entries-d is-d _ _ c.requires 6 c.in-6.is _ _ _ _ c.find_in-in-6.ensures.value c.find_in-in-6.ensures.found_after refl).0
+unfolding encoded entries_long count is_ascii_word is_letter within entries_d
+returns-in-6-clause-value c = (long_is 68 entries_d is_d _ _ c.requires 6 c.in-6.is _ _ _ _ c.find_in-in-6.ensures.value c.find_in-in-6.ensures.found_after refl).0
 
 pub returns-in-6-clause-found_after : goal.returns-in-6-clause-found_after
-unfolding encoded entriesLong count isAsciiWord isLetter within entries-d
-returns-in-6-clause-found_after c = (long-is 68 entries-d is-d _ _ c.requires 6 c.in-6.is _ _ _ _ c.find_in-in-6.ensures.value c.find_in-in-6.ensures.found_after refl).1
+unfolding encoded entries_long count is_ascii_word is_letter within entries_d
+returns-in-6-clause-found_after c = (long_is 68 entries_d is_d _ _ c.requires 6 c.in-6.is _ _ _ _ c.find_in-in-6.ensures.value c.find_in-in-6.ensures.found_after refl).1
 
 pub returns-in-7-clause-value : goal.returns-in-7-clause-value
-unfolding encoded entriesLong count isAsciiWord isLetter within entries-d
-returns-in-7-clause-value c = (long-is 68 entries-d is-d _ _ c.requires 7 c.in-7.is _ _ _ _ c.find_in-in-7.ensures.value c.find_in-in-7.ensures.found_after refl).0
+unfolding encoded entries_long count is_ascii_word is_letter within entries_d
+returns-in-7-clause-value c = (long_is 68 entries_d is_d _ _ c.requires 7 c.in-7.is _ _ _ _ c.find_in-in-7.ensures.value c.find_in-in-7.ensures.found_after refl).0
 
 pub returns-in-7-clause-found_after : goal.returns-in-7-clause-found_after
-unfolding encoded entriesLong count isAsciiWord isLetter within entries-d
-returns-in-7-clause-found_after c = (long-is 68 entries-d is-d _ _ c.requires 7 c.in-7.is _ _ _ _ c.find_in-in-7.ensures.value c.find_in-in-7.ensures.found_after refl).1
+unfolding encoded entries_long count is_ascii_word is_letter within entries_d
+returns-in-7-clause-found_after c = (long_is 68 entries_d is_d _ _ c.requires 7 c.in-7.is _ _ _ _ c.find_in-in-7.ensures.value c.find_in-in-7.ensures.found_after refl).1
 
 pub returns-in-8-clause-value : goal.returns-in-8-clause-value
-unfolding encoded entriesLong count isAsciiWord isLetter within entries-d
-returns-in-8-clause-value c = (long-is 68 entries-d is-d _ _ c.requires 8 c.in-8.is _ _ _ _ c.find_in-in-8.ensures.value c.find_in-in-8.ensures.found_after refl).0
+unfolding encoded entries_long count is_ascii_word is_letter within entries_d
+returns-in-8-clause-value c = (long_is 68 entries_d is_d _ _ c.requires 8 c.in-8.is _ _ _ _ c.find_in-in-8.ensures.value c.find_in-in-8.ensures.found_after refl).0
 
 pub returns-in-8-clause-found_after : goal.returns-in-8-clause-found_after
-unfolding encoded entriesLong count isAsciiWord isLetter within entries-d
-returns-in-8-clause-found_after c = (long-is 68 entries-d is-d _ _ c.requires 8 c.in-8.is _ _ _ _ c.find_in-in-8.ensures.value c.find_in-in-8.ensures.found_after refl).1
+unfolding encoded entries_long count is_ascii_word is_letter within entries_d
+returns-in-8-clause-found_after c = (long_is 68 entries_d is_d _ _ c.requires 8 c.in-8.is _ _ _ _ c.find_in-in-8.ensures.value c.find_in-in-8.ensures.found_after refl).1
 
 pub returns-in-9-clause-value : goal.returns-in-9-clause-value
-unfolding encoded entriesLong count isAsciiWord isLetter within entries-d
-returns-in-9-clause-value c = (long-is 68 entries-d is-d _ _ c.requires 9 c.in-9.is _ _ _ _ c.find_in-in-9.ensures.value c.find_in-in-9.ensures.found_after refl).0
+unfolding encoded entries_long count is_ascii_word is_letter within entries_d
+returns-in-9-clause-value c = (long_is 68 entries_d is_d _ _ c.requires 9 c.in-9.is _ _ _ _ c.find_in-in-9.ensures.value c.find_in-in-9.ensures.found_after refl).0
 
 pub returns-in-9-clause-found_after : goal.returns-in-9-clause-found_after
-unfolding encoded entriesLong count isAsciiWord isLetter within entries-d
-returns-in-9-clause-found_after c = (long-is 68 entries-d is-d _ _ c.requires 9 c.in-9.is _ _ _ _ c.find_in-in-9.ensures.value c.find_in-in-9.ensures.found_after refl).1
+unfolding encoded entries_long count is_ascii_word is_letter within entries_d
+returns-in-9-clause-found_after c = (long_is 68 entries_d is_d _ _ c.requires 9 c.in-9.is _ _ _ _ c.find_in-in-9.ensures.value c.find_in-in-9.ensures.found_after refl).1
 
 pub returns-in-10-clause-value : goal.returns-in-10-clause-value
-unfolding encoded entriesLong count isAsciiWord isLetter within entries-d
-returns-in-10-clause-value c = (long-is 68 entries-d is-d _ _ c.requires 10 c.in-10.is _ _ _ _ c.find_in-in-10.ensures.value c.find_in-in-10.ensures.found_after refl).0
+unfolding encoded entries_long count is_ascii_word is_letter within entries_d
+returns-in-10-clause-value c = (long_is 68 entries_d is_d _ _ c.requires 10 c.in-10.is _ _ _ _ c.find_in-in-10.ensures.value c.find_in-in-10.ensures.found_after refl).0
 
 pub returns-in-10-clause-found_after : goal.returns-in-10-clause-found_after
-unfolding encoded entriesLong count isAsciiWord isLetter within entries-d
-returns-in-10-clause-found_after c = (long-is 68 entries-d is-d _ _ c.requires 10 c.in-10.is _ _ _ _ c.find_in-in-10.ensures.value c.find_in-in-10.ensures.found_after refl).1
+unfolding encoded entries_long count is_ascii_word is_letter within entries_d
+returns-in-10-clause-found_after c = (long_is 68 entries_d is_d _ _ c.requires 10 c.in-10.is _ _ _ _ c.find_in-in-10.ensures.value c.find_in-in-10.ensures.found_after refl).1
 
 pub returns-in-11-clause-value : goal.returns-in-11-clause-value
-unfolding encoded entriesLong count isAsciiWord isLetter within entries-d
-returns-in-11-clause-value c = (long-is 68 entries-d is-d _ _ c.requires 11 c.in-11.is _ _ _ _ c.find_in-in-11.ensures.value c.find_in-in-11.ensures.found_after refl).0
+unfolding encoded entries_long count is_ascii_word is_letter within entries_d
+returns-in-11-clause-value c = (long_is 68 entries_d is_d _ _ c.requires 11 c.in-11.is _ _ _ _ c.find_in-in-11.ensures.value c.find_in-in-11.ensures.found_after refl).0
 
 pub returns-in-11-clause-found_after : goal.returns-in-11-clause-found_after
-unfolding encoded entriesLong count isAsciiWord isLetter within entries-d
-returns-in-11-clause-found_after c = (long-is 68 entries-d is-d _ _ c.requires 11 c.in-11.is _ _ _ _ c.find_in-in-11.ensures.value c.find_in-in-11.ensures.found_after refl).1
+unfolding encoded entries_long count is_ascii_word is_letter within entries_d
+returns-in-11-clause-found_after c = (long_is 68 entries_d is_d _ _ c.requires 11 c.in-11.is _ _ _ _ c.find_in-in-11.ensures.value c.find_in-in-11.ensures.found_after refl).1
 
 pub returns-in-13-clause-value : goal.returns-in-13-clause-value
-unfolding encoded entriesLong count isAsciiWord isLetter within entries-d
-returns-in-13-clause-value c = (long-is 68 entries-d is-d _ _ c.requires 13 c.in-13.is _ _ _ _ c.find_in-in-13.ensures.value c.find_in-in-13.ensures.found_after refl).0
+unfolding encoded entries_long count is_ascii_word is_letter within entries_d
+returns-in-13-clause-value c = (long_is 68 entries_d is_d _ _ c.requires 13 c.in-13.is _ _ _ _ c.find_in-in-13.ensures.value c.find_in-in-13.ensures.found_after refl).0
 
 pub returns-in-13-clause-found_after : goal.returns-in-13-clause-found_after
-unfolding encoded entriesLong count isAsciiWord isLetter within entries-d
-returns-in-13-clause-found_after c = (long-is 68 entries-d is-d _ _ c.requires 13 c.in-13.is _ _ _ _ c.find_in-in-13.ensures.value c.find_in-in-13.ensures.found_after refl).1
+unfolding encoded entries_long count is_ascii_word is_letter within entries_d
+returns-in-13-clause-found_after c = (long_is 68 entries_d is_d _ _ c.requires 13 c.in-13.is _ _ _ _ c.find_in-in-13.ensures.value c.find_in-in-13.ensures.found_after refl).1
 
 lengths : List ℕ
 lengths = 2 ∷ 3 ∷ 4 ∷ 6 ∷ 7 ∷ 8 ∷ 9 ∷ 10 ∷ 11 ∷ 13 ∷ []
 
 pub returns-in_default-clause-value : goal.returns-in_default-clause-value
-unfolding lengths contains count isAsciiWord isLetter within entries-d
-returns-in_default-clause-value c = (long-none 68 entries-d is-d _ _ c.requires lengths c.args.found.now refl (search rules)).0
+unfolding lengths contains count is_ascii_word is_letter within entries_d
+returns-in_default-clause-value c = (long_none 68 entries_d is_d _ _ c.requires lengths c.args.found.now refl (search rules)).0
 
 pub returns-in_default-clause-found_after : goal.returns-in_default-clause-found_after
-unfolding lengths contains count isAsciiWord isLetter within entries-d
-returns-in_default-clause-found_after c = (long-none 68 entries-d is-d _ _ c.requires lengths c.args.found.now refl (search rules)).1
+unfolding lengths contains count is_ascii_word is_letter within entries_d
+returns-in_default-clause-found_after c = (long_none 68 entries_d is_d _ _ c.requires lengths c.args.found.now refl (search rules)).1

@@ -5,52 +5,52 @@ use mathlib.Core.List.{List, [], ◌∷◌}
 use mathlib.Core.Path.{refl}
 use borrow.Author.Rules.{rules}
 use Rattle.characters.specs.Ranges.{within}
-use Rattle.characters.specs.Ascii.{isLetter, isAsciiWord}
+use Rattle.characters.specs.Ascii.{is_letter, is_ascii_word}
 use Rattle.recognisers.specs.Taking.{count, contains}
-use Rattle.reserved.specs.Inner.Entries.{encoded, entriesLong}
-use Rattle.reserved.proofs.LetterEntries.{entries-g, is-g}
-use Rattle.reserved.proofs.OtherLengths.{long-is, long-none}
+use Rattle.reserved.specs.Inner.Entries.{encoded, entries_long}
+use Rattle.reserved.proofs.LetterEntries.{entries_g, is_g}
+use Rattle.reserved.proofs.OtherLengths.{long_is, long_none}
 use Rattle.reserved.proofs.tables.find_g.Goals as goal
 
 pub returns-in-2-clause-value : goal.returns-in-2-clause-value
-unfolding encoded entriesLong count isAsciiWord isLetter within entries-g
-returns-in-2-clause-value c = (long-is 71 entries-g is-g _ _ c.requires 2 c.in-2.is _ _ _ _ c.find_in.ensures.value c.find_in.ensures.found_after refl).0
+unfolding encoded entries_long count is_ascii_word is_letter within entries_g
+returns-in-2-clause-value c = (long_is 71 entries_g is_g _ _ c.requires 2 c.in-2.is _ _ _ _ c.find_in.ensures.value c.find_in.ensures.found_after refl).0
 
 pub returns-in-2-clause-found_after : goal.returns-in-2-clause-found_after
-unfolding encoded entriesLong count isAsciiWord isLetter within entries-g
-returns-in-2-clause-found_after c = (long-is 71 entries-g is-g _ _ c.requires 2 c.in-2.is _ _ _ _ c.find_in.ensures.value c.find_in.ensures.found_after refl).1
+unfolding encoded entries_long count is_ascii_word is_letter within entries_g
+returns-in-2-clause-found_after c = (long_is 71 entries_g is_g _ _ c.requires 2 c.in-2.is _ _ _ _ c.find_in.ensures.value c.find_in.ensures.found_after refl).1
 
 pub returns-in-5-clause-value : goal.returns-in-5-clause-value
-unfolding encoded entriesLong count isAsciiWord isLetter within entries-g
-returns-in-5-clause-value c = (long-is 71 entries-g is-g _ _ c.requires 5 c.in-5.is _ _ _ _ c.find_in-in-5.ensures.value c.find_in-in-5.ensures.found_after refl).0
+unfolding encoded entries_long count is_ascii_word is_letter within entries_g
+returns-in-5-clause-value c = (long_is 71 entries_g is_g _ _ c.requires 5 c.in-5.is _ _ _ _ c.find_in-in-5.ensures.value c.find_in-in-5.ensures.found_after refl).0
 
 pub returns-in-5-clause-found_after : goal.returns-in-5-clause-found_after
-unfolding encoded entriesLong count isAsciiWord isLetter within entries-g
-returns-in-5-clause-found_after c = (long-is 71 entries-g is-g _ _ c.requires 5 c.in-5.is _ _ _ _ c.find_in-in-5.ensures.value c.find_in-in-5.ensures.found_after refl).1
+unfolding encoded entries_long count is_ascii_word is_letter within entries_g
+returns-in-5-clause-found_after c = (long_is 71 entries_g is_g _ _ c.requires 5 c.in-5.is _ _ _ _ c.find_in-in-5.ensures.value c.find_in-in-5.ensures.found_after refl).1
 
 pub returns-in-6-clause-value : goal.returns-in-6-clause-value
-unfolding encoded entriesLong count isAsciiWord isLetter within entries-g
-returns-in-6-clause-value c = (long-is 71 entries-g is-g _ _ c.requires 6 c.in-6.is _ _ _ _ c.find_in-in-6.ensures.value c.find_in-in-6.ensures.found_after refl).0
+unfolding encoded entries_long count is_ascii_word is_letter within entries_g
+returns-in-6-clause-value c = (long_is 71 entries_g is_g _ _ c.requires 6 c.in-6.is _ _ _ _ c.find_in-in-6.ensures.value c.find_in-in-6.ensures.found_after refl).0
 
 pub returns-in-6-clause-found_after : goal.returns-in-6-clause-found_after
-unfolding encoded entriesLong count isAsciiWord isLetter within entries-g
-returns-in-6-clause-found_after c = (long-is 71 entries-g is-g _ _ c.requires 6 c.in-6.is _ _ _ _ c.find_in-in-6.ensures.value c.find_in-in-6.ensures.found_after refl).1
+unfolding encoded entries_long count is_ascii_word is_letter within entries_g
+returns-in-6-clause-found_after c = (long_is 71 entries_g is_g _ _ c.requires 6 c.in-6.is _ _ _ _ c.find_in-in-6.ensures.value c.find_in-in-6.ensures.found_after refl).1
 
 pub returns-in-12-clause-value : goal.returns-in-12-clause-value
-unfolding encoded entriesLong count isAsciiWord isLetter within entries-g
-returns-in-12-clause-value c = (long-is 71 entries-g is-g _ _ c.requires 12 c.in-12.is _ _ _ _ c.find_in-in-12.ensures.value c.find_in-in-12.ensures.found_after refl).0
+unfolding encoded entries_long count is_ascii_word is_letter within entries_g
+returns-in-12-clause-value c = (long_is 71 entries_g is_g _ _ c.requires 12 c.in-12.is _ _ _ _ c.find_in-in-12.ensures.value c.find_in-in-12.ensures.found_after refl).0
 
 pub returns-in-12-clause-found_after : goal.returns-in-12-clause-found_after
-unfolding encoded entriesLong count isAsciiWord isLetter within entries-g
-returns-in-12-clause-found_after c = (long-is 71 entries-g is-g _ _ c.requires 12 c.in-12.is _ _ _ _ c.find_in-in-12.ensures.value c.find_in-in-12.ensures.found_after refl).1
+unfolding encoded entries_long count is_ascii_word is_letter within entries_g
+returns-in-12-clause-found_after c = (long_is 71 entries_g is_g _ _ c.requires 12 c.in-12.is _ _ _ _ c.find_in-in-12.ensures.value c.find_in-in-12.ensures.found_after refl).1
 
 lengths : List ℕ
 lengths = 2 ∷ 5 ∷ 6 ∷ 12 ∷ []
 
 pub returns-in_default-clause-value : goal.returns-in_default-clause-value
-unfolding lengths contains count isAsciiWord isLetter within entries-g
-returns-in_default-clause-value c = (long-none 71 entries-g is-g _ _ c.requires lengths c.args.found.now refl (search rules)).0
+unfolding lengths contains count is_ascii_word is_letter within entries_g
+returns-in_default-clause-value c = (long_none 71 entries_g is_g _ _ c.requires lengths c.args.found.now refl (search rules)).0
 
 pub returns-in_default-clause-found_after : goal.returns-in_default-clause-found_after
-unfolding lengths contains count isAsciiWord isLetter within entries-g
-returns-in_default-clause-found_after c = (long-none 71 entries-g is-g _ _ c.requires lengths c.args.found.now refl (search rules)).1
+unfolding lengths contains count is_ascii_word is_letter within entries_g
+returns-in_default-clause-found_after c = (long_none 71 entries_g is_g _ _ c.requires lengths c.args.found.now refl (search rules)).1

@@ -5,28 +5,28 @@ use mathlib.Core.List.{List, [], ◌∷◌}
 use mathlib.Core.Path.{refl}
 use borrow.Author.Rules.{rules}
 use Rattle.characters.specs.Ranges.{within}
-use Rattle.characters.specs.Ascii.{isLetter, isAsciiWord}
+use Rattle.characters.specs.Ascii.{is_letter, is_ascii_word}
 use Rattle.recognisers.specs.Taking.{count, contains}
-use Rattle.reserved.specs.Inner.Entries.{encoded, entriesLong}
-use Rattle.reserved.proofs.LetterEntries.{entries-q, is-q}
-use Rattle.reserved.proofs.OtherLengths.{long-is, long-none}
+use Rattle.reserved.specs.Inner.Entries.{encoded, entries_long}
+use Rattle.reserved.proofs.LetterEntries.{entries_q, is_q}
+use Rattle.reserved.proofs.OtherLengths.{long_is, long_none}
 use Rattle.reserved.proofs.tables.find_q.Goals as goal
 
 pub returns-in-5-clause-value : goal.returns-in-5-clause-value
-unfolding encoded entriesLong count isAsciiWord isLetter within entries-q
-returns-in-5-clause-value c = (long-is 81 entries-q is-q _ _ c.requires 5 c.in-5.is _ _ _ _ c.find_in.ensures.value c.find_in.ensures.found_after refl).0
+unfolding encoded entries_long count is_ascii_word is_letter within entries_q
+returns-in-5-clause-value c = (long_is 81 entries_q is_q _ _ c.requires 5 c.in-5.is _ _ _ _ c.find_in.ensures.value c.find_in.ensures.found_after refl).0
 
 pub returns-in-5-clause-found_after : goal.returns-in-5-clause-found_after
-unfolding encoded entriesLong count isAsciiWord isLetter within entries-q
-returns-in-5-clause-found_after c = (long-is 81 entries-q is-q _ _ c.requires 5 c.in-5.is _ _ _ _ c.find_in.ensures.value c.find_in.ensures.found_after refl).1
+unfolding encoded entries_long count is_ascii_word is_letter within entries_q
+returns-in-5-clause-found_after c = (long_is 81 entries_q is_q _ _ c.requires 5 c.in-5.is _ _ _ _ c.find_in.ensures.value c.find_in.ensures.found_after refl).1
 
 lengths : List ℕ
 lengths = 5 ∷ []
 
 pub returns-in_default-clause-value : goal.returns-in_default-clause-value
-unfolding lengths contains count isAsciiWord isLetter within entries-q
-returns-in_default-clause-value c = (long-none 81 entries-q is-q _ _ c.requires lengths c.args.found.now refl (search rules)).0
+unfolding lengths contains count is_ascii_word is_letter within entries_q
+returns-in_default-clause-value c = (long_none 81 entries_q is_q _ _ c.requires lengths c.args.found.now refl (search rules)).0
 
 pub returns-in_default-clause-found_after : goal.returns-in_default-clause-found_after
-unfolding lengths contains count isAsciiWord isLetter within entries-q
-returns-in_default-clause-found_after c = (long-none 81 entries-q is-q _ _ c.requires lengths c.args.found.now refl (search rules)).1
+unfolding lengths contains count is_ascii_word is_letter within entries_q
+returns-in_default-clause-found_after c = (long_none 81 entries_q is_q _ _ c.requires lengths c.args.found.now refl (search rules)).1

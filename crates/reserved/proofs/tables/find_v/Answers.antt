@@ -5,52 +5,52 @@ use mathlib.Core.List.{List, [], ◌∷◌}
 use mathlib.Core.Path.{refl}
 use borrow.Author.Rules.{rules}
 use Rattle.characters.specs.Ranges.{within}
-use Rattle.characters.specs.Ascii.{isLetter, isAsciiWord}
+use Rattle.characters.specs.Ascii.{is_letter, is_ascii_word}
 use Rattle.recognisers.specs.Taking.{count, contains}
-use Rattle.reserved.specs.Inner.Entries.{encoded, entriesLong}
-use Rattle.reserved.proofs.LetterEntries.{entries-v, is-v}
-use Rattle.reserved.proofs.OtherLengths.{long-is, long-none}
+use Rattle.reserved.specs.Inner.Entries.{encoded, entries_long}
+use Rattle.reserved.proofs.LetterEntries.{entries_v, is_v}
+use Rattle.reserved.proofs.OtherLengths.{long_is, long_none}
 use Rattle.reserved.proofs.tables.find_v.Goals as goal
 
 pub returns-in-4-clause-value : goal.returns-in-4-clause-value
-unfolding encoded entriesLong count isAsciiWord isLetter within entries-v
-returns-in-4-clause-value c = (long-is 86 entries-v is-v _ _ c.requires 4 c.in-4.is _ _ _ _ c.find_in.ensures.value c.find_in.ensures.found_after refl).0
+unfolding encoded entries_long count is_ascii_word is_letter within entries_v
+returns-in-4-clause-value c = (long_is 86 entries_v is_v _ _ c.requires 4 c.in-4.is _ _ _ _ c.find_in.ensures.value c.find_in.ensures.found_after refl).0
 
 pub returns-in-4-clause-found_after : goal.returns-in-4-clause-found_after
-unfolding encoded entriesLong count isAsciiWord isLetter within entries-v
-returns-in-4-clause-found_after c = (long-is 86 entries-v is-v _ _ c.requires 4 c.in-4.is _ _ _ _ c.find_in.ensures.value c.find_in.ensures.found_after refl).1
+unfolding encoded entries_long count is_ascii_word is_letter within entries_v
+returns-in-4-clause-found_after c = (long_is 86 entries_v is_v _ _ c.requires 4 c.in-4.is _ _ _ _ c.find_in.ensures.value c.find_in.ensures.found_after refl).1
 
 pub returns-in-6-clause-value : goal.returns-in-6-clause-value
-unfolding encoded entriesLong count isAsciiWord isLetter within entries-v
-returns-in-6-clause-value c = (long-is 86 entries-v is-v _ _ c.requires 6 c.in-6.is _ _ _ _ c.find_in-in-6.ensures.value c.find_in-in-6.ensures.found_after refl).0
+unfolding encoded entries_long count is_ascii_word is_letter within entries_v
+returns-in-6-clause-value c = (long_is 86 entries_v is_v _ _ c.requires 6 c.in-6.is _ _ _ _ c.find_in-in-6.ensures.value c.find_in-in-6.ensures.found_after refl).0
 
 pub returns-in-6-clause-found_after : goal.returns-in-6-clause-found_after
-unfolding encoded entriesLong count isAsciiWord isLetter within entries-v
-returns-in-6-clause-found_after c = (long-is 86 entries-v is-v _ _ c.requires 6 c.in-6.is _ _ _ _ c.find_in-in-6.ensures.value c.find_in-in-6.ensures.found_after refl).1
+unfolding encoded entries_long count is_ascii_word is_letter within entries_v
+returns-in-6-clause-found_after c = (long_is 86 entries_v is_v _ _ c.requires 6 c.in-6.is _ _ _ _ c.find_in-in-6.ensures.value c.find_in-in-6.ensures.found_after refl).1
 
 pub returns-in-8-clause-value : goal.returns-in-8-clause-value
-unfolding encoded entriesLong count isAsciiWord isLetter within entries-v
-returns-in-8-clause-value c = (long-is 86 entries-v is-v _ _ c.requires 8 c.in-8.is _ _ _ _ c.find_in-in-8.ensures.value c.find_in-in-8.ensures.found_after refl).0
+unfolding encoded entries_long count is_ascii_word is_letter within entries_v
+returns-in-8-clause-value c = (long_is 86 entries_v is_v _ _ c.requires 8 c.in-8.is _ _ _ _ c.find_in-in-8.ensures.value c.find_in-in-8.ensures.found_after refl).0
 
 pub returns-in-8-clause-found_after : goal.returns-in-8-clause-found_after
-unfolding encoded entriesLong count isAsciiWord isLetter within entries-v
-returns-in-8-clause-found_after c = (long-is 86 entries-v is-v _ _ c.requires 8 c.in-8.is _ _ _ _ c.find_in-in-8.ensures.value c.find_in-in-8.ensures.found_after refl).1
+unfolding encoded entries_long count is_ascii_word is_letter within entries_v
+returns-in-8-clause-found_after c = (long_is 86 entries_v is_v _ _ c.requires 8 c.in-8.is _ _ _ _ c.find_in-in-8.ensures.value c.find_in-in-8.ensures.found_after refl).1
 
 pub returns-in-9-clause-value : goal.returns-in-9-clause-value
-unfolding encoded entriesLong count isAsciiWord isLetter within entries-v
-returns-in-9-clause-value c = (long-is 86 entries-v is-v _ _ c.requires 9 c.in-9.is _ _ _ _ c.find_in-in-9.ensures.value c.find_in-in-9.ensures.found_after refl).0
+unfolding encoded entries_long count is_ascii_word is_letter within entries_v
+returns-in-9-clause-value c = (long_is 86 entries_v is_v _ _ c.requires 9 c.in-9.is _ _ _ _ c.find_in-in-9.ensures.value c.find_in-in-9.ensures.found_after refl).0
 
 pub returns-in-9-clause-found_after : goal.returns-in-9-clause-found_after
-unfolding encoded entriesLong count isAsciiWord isLetter within entries-v
-returns-in-9-clause-found_after c = (long-is 86 entries-v is-v _ _ c.requires 9 c.in-9.is _ _ _ _ c.find_in-in-9.ensures.value c.find_in-in-9.ensures.found_after refl).1
+unfolding encoded entries_long count is_ascii_word is_letter within entries_v
+returns-in-9-clause-found_after c = (long_is 86 entries_v is_v _ _ c.requires 9 c.in-9.is _ _ _ _ c.find_in-in-9.ensures.value c.find_in-in-9.ensures.found_after refl).1
 
 lengths : List ℕ
 lengths = 4 ∷ 6 ∷ 8 ∷ 9 ∷ []
 
 pub returns-in_default-clause-value : goal.returns-in_default-clause-value
-unfolding lengths contains count isAsciiWord isLetter within entries-v
-returns-in_default-clause-value c = (long-none 86 entries-v is-v _ _ c.requires lengths c.args.found.now refl (search rules)).0
+unfolding lengths contains count is_ascii_word is_letter within entries_v
+returns-in_default-clause-value c = (long_none 86 entries_v is_v _ _ c.requires lengths c.args.found.now refl (search rules)).0
 
 pub returns-in_default-clause-found_after : goal.returns-in_default-clause-found_after
-unfolding lengths contains count isAsciiWord isLetter within entries-v
-returns-in_default-clause-found_after c = (long-none 86 entries-v is-v _ _ c.requires lengths c.args.found.now refl (search rules)).1
+unfolding lengths contains count is_ascii_word is_letter within entries_v
+returns-in_default-clause-found_after c = (long_none 86 entries_v is_v _ _ c.requires lengths c.args.found.now refl (search rules)).1

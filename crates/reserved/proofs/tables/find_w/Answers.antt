@@ -5,44 +5,44 @@ use mathlib.Core.List.{List, [], ◌∷◌}
 use mathlib.Core.Path.{refl}
 use borrow.Author.Rules.{rules}
 use Rattle.characters.specs.Ranges.{within}
-use Rattle.characters.specs.Ascii.{isLetter, isAsciiWord}
+use Rattle.characters.specs.Ascii.{is_letter, is_ascii_word}
 use Rattle.recognisers.specs.Taking.{count, contains}
-use Rattle.reserved.specs.Inner.Entries.{encoded, entriesLong}
-use Rattle.reserved.proofs.LetterEntries.{entries-w, is-w}
-use Rattle.reserved.proofs.OtherLengths.{long-is, long-none}
+use Rattle.reserved.specs.Inner.Entries.{encoded, entries_long}
+use Rattle.reserved.proofs.LetterEntries.{entries_w, is_w}
+use Rattle.reserved.proofs.OtherLengths.{long_is, long_none}
 use Rattle.reserved.proofs.tables.find_w.Goals as goal
 
 pub returns-in-4-clause-value : goal.returns-in-4-clause-value
-unfolding encoded entriesLong count isAsciiWord isLetter within entries-w
-returns-in-4-clause-value c = (long-is 87 entries-w is-w _ _ c.requires 4 c.in-4.is _ _ _ _ c.find_in.ensures.value c.find_in.ensures.found_after refl).0
+unfolding encoded entries_long count is_ascii_word is_letter within entries_w
+returns-in-4-clause-value c = (long_is 87 entries_w is_w _ _ c.requires 4 c.in-4.is _ _ _ _ c.find_in.ensures.value c.find_in.ensures.found_after refl).0
 
 pub returns-in-4-clause-found_after : goal.returns-in-4-clause-found_after
-unfolding encoded entriesLong count isAsciiWord isLetter within entries-w
-returns-in-4-clause-found_after c = (long-is 87 entries-w is-w _ _ c.requires 4 c.in-4.is _ _ _ _ c.find_in.ensures.value c.find_in.ensures.found_after refl).1
+unfolding encoded entries_long count is_ascii_word is_letter within entries_w
+returns-in-4-clause-found_after c = (long_is 87 entries_w is_w _ _ c.requires 4 c.in-4.is _ _ _ _ c.find_in.ensures.value c.find_in.ensures.found_after refl).1
 
 pub returns-in-5-clause-value : goal.returns-in-5-clause-value
-unfolding encoded entriesLong count isAsciiWord isLetter within entries-w
-returns-in-5-clause-value c = (long-is 87 entries-w is-w _ _ c.requires 5 c.in-5.is _ _ _ _ c.find_in-in-5.ensures.value c.find_in-in-5.ensures.found_after refl).0
+unfolding encoded entries_long count is_ascii_word is_letter within entries_w
+returns-in-5-clause-value c = (long_is 87 entries_w is_w _ _ c.requires 5 c.in-5.is _ _ _ _ c.find_in-in-5.ensures.value c.find_in-in-5.ensures.found_after refl).0
 
 pub returns-in-5-clause-found_after : goal.returns-in-5-clause-found_after
-unfolding encoded entriesLong count isAsciiWord isLetter within entries-w
-returns-in-5-clause-found_after c = (long-is 87 entries-w is-w _ _ c.requires 5 c.in-5.is _ _ _ _ c.find_in-in-5.ensures.value c.find_in-in-5.ensures.found_after refl).1
+unfolding encoded entries_long count is_ascii_word is_letter within entries_w
+returns-in-5-clause-found_after c = (long_is 87 entries_w is_w _ _ c.requires 5 c.in-5.is _ _ _ _ c.find_in-in-5.ensures.value c.find_in-in-5.ensures.found_after refl).1
 
 pub returns-in-6-clause-value : goal.returns-in-6-clause-value
-unfolding encoded entriesLong count isAsciiWord isLetter within entries-w
-returns-in-6-clause-value c = (long-is 87 entries-w is-w _ _ c.requires 6 c.in-6.is _ _ _ _ c.find_in-in-6.ensures.value c.find_in-in-6.ensures.found_after refl).0
+unfolding encoded entries_long count is_ascii_word is_letter within entries_w
+returns-in-6-clause-value c = (long_is 87 entries_w is_w _ _ c.requires 6 c.in-6.is _ _ _ _ c.find_in-in-6.ensures.value c.find_in-in-6.ensures.found_after refl).0
 
 pub returns-in-6-clause-found_after : goal.returns-in-6-clause-found_after
-unfolding encoded entriesLong count isAsciiWord isLetter within entries-w
-returns-in-6-clause-found_after c = (long-is 87 entries-w is-w _ _ c.requires 6 c.in-6.is _ _ _ _ c.find_in-in-6.ensures.value c.find_in-in-6.ensures.found_after refl).1
+unfolding encoded entries_long count is_ascii_word is_letter within entries_w
+returns-in-6-clause-found_after c = (long_is 87 entries_w is_w _ _ c.requires 6 c.in-6.is _ _ _ _ c.find_in-in-6.ensures.value c.find_in-in-6.ensures.found_after refl).1
 
 lengths : List ℕ
 lengths = 4 ∷ 5 ∷ 6 ∷ []
 
 pub returns-in_default-clause-value : goal.returns-in_default-clause-value
-unfolding lengths contains count isAsciiWord isLetter within entries-w
-returns-in_default-clause-value c = (long-none 87 entries-w is-w _ _ c.requires lengths c.args.found.now refl (search rules)).0
+unfolding lengths contains count is_ascii_word is_letter within entries_w
+returns-in_default-clause-value c = (long_none 87 entries_w is_w _ _ c.requires lengths c.args.found.now refl (search rules)).0
 
 pub returns-in_default-clause-found_after : goal.returns-in_default-clause-found_after
-unfolding lengths contains count isAsciiWord isLetter within entries-w
-returns-in_default-clause-found_after c = (long-none 87 entries-w is-w _ _ c.requires lengths c.args.found.now refl (search rules)).1
+unfolding lengths contains count is_ascii_word is_letter within entries_w
+returns-in_default-clause-found_after c = (long_none 87 entries_w is_w _ _ c.requires lengths c.args.found.now refl (search rules)).1

@@ -1,11 +1,11 @@
-use Rattle.reserved.proofs.EntryTokens.{after-dot, no-letter, reserved-word}
+use Rattle.reserved.proofs.EntryTokens.{after_dot_lem, no_letter, reserved_word}
 use Rattle.reserved.proofs.words.get_reserved_word_token.Goals as goal
 
 pub returns-then-after_dot : goal.returns-then-after_dot
-returns-then-after_dot c = search after-dot
+returns-then-after_dot c = search after_dot_lem
 
 pub returns-then-may_be_reserved : goal.returns-then-may_be_reserved
-returns-then-may_be_reserved c = search reserved-word
+returns-then-may_be_reserved c = search reserved_word
 
 pub returns : goal.returns
-returns c = search no-letter
+returns c = search no_letter

@@ -1,19 +1,19 @@
 use Rattle.std.proofs.Common.{rules}
-use Rattle.reserved.specs.Reserved.{topLevelKind}
+use Rattle.reserved.specs.Reserved.{top_level_kind}
 use Rattle.reserved.proofs.words.top_level_kind.Goals as goal
 
 pub returns-then-is_except : goal.returns-then-is_except
-unfolding topLevelKind
+unfolding top_level_kind
 returns-then-is_except c = search rules
 
 pub returns-then-is_set : goal.returns-then-is_set
-unfolding topLevelKind
+unfolding top_level_kind
 returns-then-is_set c = search rules
 
 pub returns-then-is_using : goal.returns-then-is_using
-unfolding topLevelKind
+unfolding top_level_kind
 returns-then-is_using c = search rules
 
 pub returns : goal.returns
-unfolding topLevelKind
+unfolding top_level_kind
 returns c = search rules

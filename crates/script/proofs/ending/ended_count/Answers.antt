@@ -1,8 +1,8 @@
-use Rattle.script.proofs.PartWalk.{one-ended, none-ended}
+use Rattle.script.proofs.PartWalk.{one_ended, none_ended}
 use Rattle.script.proofs.ending.ended_count.Goals as goal
 
 pub returns-then-ends_part : goal.returns-then-ends_part
-returns-then-ends_part c = search one-ended
+returns-then-ends_part c = search one_ended
 
 pub returns : goal.returns
-returns c = search none-ended
+returns c = search none_ended

@@ -1,11 +1,11 @@
-use Rattle.tokenizer.specs.NextToken.{fromOpenParen}
-use Rattle.recognisers.proofs.OrderedChoice.{first-recognises, rest-recognises}
+use Rattle.tokenizer.specs.NextToken.{from_open_paren}
+use Rattle.recognisers.proofs.OrderedChoice.{first_recognises, rest_recognises}
 use Rattle.tokenizer.proofs.choice.from_open_paren.Goals as goal
 
 pub returns-in-Token : goal.returns-in-Token
-unfolding fromOpenParen
-returns-in-Token c = search first-recognises
+unfolding from_open_paren
+returns-in-Token c = search first_recognises
 
 pub returns-in-Nothing : goal.returns-in-Nothing
-unfolding fromOpenParen
-returns-in-Nothing c = search rest-recognises
+unfolding from_open_paren
+returns-in-Nothing c = search rest_recognises

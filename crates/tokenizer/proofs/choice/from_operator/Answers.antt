@@ -1,11 +1,11 @@
-use Rattle.tokenizer.specs.NextToken.{fromOperator}
-use Rattle.recognisers.proofs.OrderedChoice.{first-recognises, rest-recognises}
+use Rattle.tokenizer.specs.NextToken.{from_operator}
+use Rattle.recognisers.proofs.OrderedChoice.{first_recognises, rest_recognises}
 use Rattle.tokenizer.proofs.choice.from_operator.Goals as goal
 
 pub returns-in-Token : goal.returns-in-Token
-unfolding fromOperator
-returns-in-Token c = search first-recognises
+unfolding from_operator
+returns-in-Token c = search first_recognises
 
 pub returns-in-Nothing : goal.returns-in-Nothing
-unfolding fromOperator
-returns-in-Nothing c = search rest-recognises
+unfolding from_operator
+returns-in-Nothing c = search rest_recognises

@@ -1,11 +1,11 @@
-use Rattle.tokenizer.specs.NextToken.{fromTypeSpecifier}
-use Rattle.recognisers.proofs.OrderedChoice.{first-recognises, rest-recognises}
+use Rattle.tokenizer.specs.NextToken.{from_type_specifier}
+use Rattle.recognisers.proofs.OrderedChoice.{first_recognises, rest_recognises}
 use Rattle.tokenizer.proofs.choice.from_type_specifier.Goals as goal
 
 pub returns-in-Token : goal.returns-in-Token
-unfolding fromTypeSpecifier
-returns-in-Token c = search first-recognises
+unfolding from_type_specifier
+returns-in-Token c = search first_recognises
 
 pub returns-in-Nothing : goal.returns-in-Nothing
-unfolding fromTypeSpecifier
-returns-in-Nothing c = search rest-recognises
+unfolding from_type_specifier
+returns-in-Nothing c = search rest_recognises

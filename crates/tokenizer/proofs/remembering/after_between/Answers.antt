@@ -1,11 +1,11 @@
 use Rattle.std.proofs.Common.{rules}
-use Rattle.tokenizer.specs.Memory.{afterBetween}
+use Rattle.tokenizer.specs.Memory.{after_between}
 use Rattle.tokenizer.proofs.remembering.after_between.Goals as goal
 
 pub returns-then-is_kind : goal.returns-then-is_kind
-unfolding afterBetween
+unfolding after_between
 returns-then-is_kind c = search rules
 
 pub returns : goal.returns
-unfolding afterBetween
+unfolding after_between
 returns c = search rules
