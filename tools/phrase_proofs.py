@@ -45,13 +45,13 @@ use Rattle.recognisers.specs.Text.{{bytes}}
 """
 
 ENTRIES_OF_A_LETTER = f"""
-unfoldable pub entries-NAME : List (ℕ × List ℕ)
-entries-NAME =
+unfoldable pub entries_NAME : List (ℕ × List ℕ)
+entries_NAME =
     ENTRIES []
 
-pub is-NAME : entries_of LETTER entries ≡ entries-NAME
-unfolding entries-NAME entries_of {LISTS}
-is-NAME = refl
+pub is_NAME : entries_of LETTER entries ≡ entries_NAME
+unfolding entries_NAME entries_of {LISTS}
+is_NAME = refl
 """
 
 # ---- the answers of one letter's function
@@ -67,24 +67,24 @@ use Rattle.characters.specs.Ranges.{within}
 use Rattle.characters.specs.Ascii.{is_letter, is_ascii_word}
 use Rattle.recognisers.specs.Taking.{count, contains}
 use Rattle.reserved.specs.Inner.Entries.{encoded, entries_long}
-use Rattle.reserved.proofs.LetterEntries.{entries-NAME, is-NAME}
+use Rattle.reserved.proofs.LetterEntries.{entries_NAME, is_NAME}
 use Rattle.reserved.proofs.OtherLengths.{long_is, long_none}
 use Rattle.reserved.proofs.tables.find_NAME.Goals as goal
 """
 
 SO_LONG = (
-    "long_is LETTER entries-NAME is-NAME _ _ c.requires LENGTH c.in-LENGTH.is"
+    "long_is LETTER entries_NAME is_NAME _ _ c.requires LENGTH c.in-LENGTH.is"
     " _ _ _ _ c.CALL.ensures.value c.CALL.ensures.found_after refl"
 )
-UNFOLDING_LONG = f"encoded entries_long {WORDS} entries-NAME"
+UNFOLDING_LONG = f"encoded entries_long {WORDS} entries_NAME"
 
 LENGTHS_OF_A_LETTER = """
 lengths : List ℕ
 lengths = LENGTHS
 """
 
-NONE_SO_LONG = "long_none LETTER entries-NAME is-NAME _ _ c.requires lengths c.args.found.now refl (search rules)"
-UNFOLDING_NONE_LONG = f"lengths contains {WORDS} entries-NAME"
+NONE_SO_LONG = "long_none LETTER entries_NAME is_NAME _ _ c.requires lengths c.args.found.now refl (search rules)"
+UNFOLDING_NONE_LONG = f"lengths contains {WORDS} entries_NAME"
 
 # ---- the answers of the function that picks a letter's
 

@@ -19,7 +19,7 @@ ANTT = re.compile(r'"(?:[^"\\\n]|\\.)*"|--[^\n]*|' + WORD)
 SOURCE = re.compile(r'b?"(?:[^"\\]|\\.)*"|//[^\n]*|[A-Za-z_][\w\'-]*')
 PROSE = re.compile(r"[A-Za-z][\w'-]*[\w']")
 DECLARED = re.compile(
-    r"^ *(?:(?:pub|unfoldable|abbrev|opaque|data|record|ruleset) )*(?P<name>[^\s(){}.;,@\"«»\[\]\\:=|]+)(?: [^:=\n]*)? : (?!goal\.)",
+    r"^ *(?:(?:pub|unfoldable|abbrev|opaque|data|record|ruleset) )*(?P<name>[^\s(){}.;,@\"«»\[\]\\:=|]+)(?: [^:=\n]*)? :(?= |$)(?! goal\.)",
     re.M,
 )
 CAMEL = re.compile(r"[a-z][a-z0-9_]*[A-Z]\w*'*")

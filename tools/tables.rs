@@ -118,7 +118,7 @@ fn source(class: &Class, ranges: &[Range]) -> String {
 // The goals of `contains`, one for each arm, each with the part of the table that it looks in.
 fn answers(class: &Class, ranges: &[Range]) -> String {
     let Class { file, module, definition, .. } = class;
-    let law = format!("{}-ordered", module.replace('_', "-"));
+    let law = format!("{module}_ordered");
     let chunks: Vec<&[Range]> = ranges.chunks(MOST).collect();
     let laws = if chunks.len() == 1 { "last_part_is" } else { "part_is, last_part_is" };
     let mut out = String::new();
