@@ -14,7 +14,7 @@ use calls::le32_at;
 use console::{print, print_next, print_number, print_refused, read_text, text_space};
 use script::{cut, cutter_settings};
 use std::io;
-use std::io::{BufWriter, Read, Write};
+use std::io::{Read, Write};
 use token_lines::print_list;
 
 // The place of a part at each byte of the longest script: the places are never full.
@@ -87,7 +87,5 @@ fn answer<R: Read, W: Write>(input: &mut R, output: &mut W) -> io::Result<()>
 
 // Ends with the error where standard input or standard output fails.
 fn main(rt: HostRuntime) -> io::Result<()> {
-    let mut output = BufWriter::new(rt.alloc(), rt.stdout())?;
-    answer(&mut rt.stdin(), &mut output)?;
-    output.flush()
+    answer(&mut rt.stdin(), &mut rt.stdout())
 }

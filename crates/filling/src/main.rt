@@ -18,7 +18,7 @@ use calls::le32_at;
 use console::{print_answer, read_text, text_space};
 use params::fill;
 use std::io;
-use std::io::{BufWriter, Read, Write};
+use std::io::{Read, Write};
 
 fn print_filled<W: Write>(
     output: &mut W,
@@ -112,7 +112,5 @@ fn answer<R: Read, W: Write>(input: &mut R, output: &mut W) -> io::Result<()>
 
 // Ends with the error where standard input or standard output fails.
 fn main(rt: HostRuntime) -> io::Result<()> {
-    let mut output = BufWriter::new(rt.alloc(), rt.stdout())?;
-    answer(&mut rt.stdin(), &mut output)?;
-    output.flush()
+    answer(&mut rt.stdin(), &mut rt.stdout())
 }

@@ -3,7 +3,7 @@
 #![tactic(auto)]
 
 use std::io;
-use std::io::{BufWriter, Write};
+use std::io::Write;
 
 const CLASSES: u32 = 8;
 
@@ -62,11 +62,11 @@ fn sweep_class<W: Write>(output: &mut W, class: u32) -> io::Result<()> {
 }
 
 fn main(rt: HostRuntime) -> io::Result<()> {
-    let mut output = BufWriter::new(rt.alloc(), rt.stdout())?;
+    let mut output = rt.stdout();
     for class in 0..CLASSES {
         let name = name(class);
         writeln!(output, "{name}")?;
         sweep_class(&mut output, class)?;
     }
-    output.flush()
+    Ok(())
 }

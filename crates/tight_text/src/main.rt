@@ -8,7 +8,7 @@ ghost use Rattle.tight_text.specs.Printed.{tight_printed};
 
 use console::{print_answer, read_text, text_space};
 use std::io;
-use std::io::{BufWriter, Read, Write};
+use std::io::{Read, Write};
 use tight::tighten;
 
 fn print_tight<W: Write>(output: &mut W, statement: &[u8], space: &mut [u8]) -> io::Result<()>
@@ -32,7 +32,5 @@ fn answer<R: Read, W: Write>(input: &mut R, output: &mut W) -> io::Result<()>
 
 // Ends with the error where standard input or standard output fails.
 fn main(rt: HostRuntime) -> io::Result<()> {
-    let mut output = BufWriter::new(rt.alloc(), rt.stdout())?;
-    answer(&mut rt.stdin(), &mut output)?;
-    output.flush()
+    answer(&mut rt.stdin(), &mut rt.stdout())
 }
