@@ -3,10 +3,10 @@
 
 usage: tools/spelling.py [TOP]
 
-It was run once, over the repository as the kit's own script had left it; a second run finds nothing to do. What turns is each name that
-a file of crates/*/specs or a law file of crates/*/proofs declares: there, in clauses, in the answers of functions, in must-fail edits,
-in the tools that print proofs, and in docs/. A file that takes the same spelling from the kit keeps it. Where a lemma would get the
-name of a definition it gets `_lem` behind it.
+It was run once, over the repository with the names of the older Rattle (docs/PORT.md); a second run finds nothing to do. What turns is
+each name that specs/ and the law files of proofs/ declare or bind, and each camel-case word there: in specs/, proofs/ and src/ with
+their comments, in must-fail edits, in the tools that print proofs, in docs/ and README.md. A file that takes the same spelling from
+the kit keeps it. Where a lemma would get the name of a definition it gets `_lem` behind it.
 """
 
 import collections
