@@ -1,12 +1,12 @@
 -- Bytes stored at a place, and more behind them.
 -- Assumes nothing.
 use Prim.Native.Nat.{ℕ, suc, ◌+◌, ◌-◌, ◌≤◌}
-use native.Mathlib.Nat.{add-zero, add-suc, suc-add, le_refl}
+use native.Mathlib.Nat.{add-zero, add-suc, suc-add}
 use native.Mathlib.Omega.{arith}
-use mathlib.Core.Path.{◌≡◌, refl, sym, ap, ◌∙◌}
-use mathlib.Core.List.{List, [], ◌∷◌, ◌++◌, append-nil, append_assoc}
-use lib.ListN.{length, take, drop, set, length-append, length-drop, drop_of_length-le}
-use lib.Seq.{sets, sets-eq, length-take-le, take_all, take_at, drop-append-add, drop-drop}
+use mathlib.Core.Path.{◌≡◌, sym, ap, ◌∙◌}
+use mathlib.Core.List.{List, [], ◌∷◌, ◌++◌, append_assoc}
+use lib.ListN.{length, take, drop, set, length-append, length-drop}
+use lib.Seq.{sets, sets-eq, length-take-le, take_at, drop-append-add, drop-drop}
 use borrow.Rule.Slice.PartMut.{put_mid}
 
 pub both_put : (vs ws table : List ℕ) (i : ℕ) → sets (sets table i vs) (i + length vs) ws ≡ sets table i (vs ++ ws)

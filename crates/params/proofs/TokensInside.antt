@@ -17,7 +17,6 @@ use Rattle.recognisers.specs.declared.Recognised.TheVariants as R
 use Rattle.recognisers.proofs.PieceSizes.{KeyFits, Sized, Sound}
 use Rattle.tokenizer.specs.declared.Cursor.{Cursor}
 use Rattle.calls.specs.declared.Settings.{Settings}
-use Rattle.tokenizer.specs.declared.Step.{Step}
 use Rattle.tokenizer.specs.declared.Step.TheVariants as S
 use Rattle.tokenizer.specs.declared.Token.{Token}
 use Rattle.tokenizer.specs.Memory.{remembered}

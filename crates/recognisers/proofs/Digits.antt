@@ -1,6 +1,6 @@
 -- Digits and marks, and what follows them.
 -- Assumes nothing.
-use Prim.Native.Nat.{ℕ, ◌+◌, ◌-◌, ◌≤◌, zero-le, suc-le-suc}
+use Prim.Native.Nat.{ℕ, ◌-◌, ◌≤◌, zero-le, suc-le-suc}
 use native.Mathlib.Nat.{add-zero}
 use native.Mathlib.Omega.{arith}
 use mathlib.Core.Path.{◌≡◌, refl, sym, ap, ◌∙◌}

@@ -6,9 +6,8 @@ use mathlib.Core.Path.{◌≡◌, refl, sym, ap, ◌∙◌}
 use mathlib.Core.List.{List, [], ◌∷◌}
 use mathlib.Core.Bool.{Bool, true, false, cond, not, ◌&&◌, ◌||◌, false≢true, and-eq-true_iff}
 use lib.ListN.{drop}
-use lib.Dec.{leb, ltb, eqb}
+use lib.Dec.{ltb, eqb}
 use borrow.Author.Tests.{eqb-true, le-leb}
-use Rattle.characters.specs.Ranges.{within}
 use Rattle.characters.specs.Ascii.{is_letter, is_space, ascii_kind}
 use Rattle.characters.specs.Character.{continuations, continued}
 use Rattle.characters.specs.Classes.{is_placeholder_name_character}

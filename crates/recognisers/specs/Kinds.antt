@@ -1,7 +1,6 @@
 -- The kinds of tokens, numbered as `TokenKind` has them.
 use Rattle.std.specs.Prelude.{ℕ, Bool, false, ◌||◌, List, [], ◌∷◌, eqb}
 use Rattle.recognisers.specs.declared.TokenKind.{TokenKind}
-use Rattle.recognisers.specs.declared.TokenKind.TheVariants
 
 abbrev pub kind_number : TokenKind → ℕ
 kind_number TokenKind.TypeSpecifier = 0

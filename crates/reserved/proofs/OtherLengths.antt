@@ -1,10 +1,10 @@
 -- Words that begin with a word of another length than the text do not stand there.
 -- Assumes nothing.
-use Prim.Native.Nat.{ℕ, suc, ◌-◌, ◌≤◌}
+use Prim.Native.Nat.{ℕ, suc, ◌≤◌}
 use native.Mathlib.Omega.{arith}
 use mathlib.Core.Path.{◌≡◌, refl, sym, ap, ◌∙◌}
 use mathlib.Core.List.{List, [], ◌∷◌}
-use mathlib.Core.Bool.{Bool, true, false, cond, not, ◌&&◌, beq, false≢true, true≢false, and-eq-true_iff}
+use mathlib.Core.Bool.{Bool, true, false, cond, ◌&&◌, beq, false≢true, true≢false, and-eq-true_iff}
 use lib.Dec.{ltb, eqb}
 use borrow.Author.Tests.{ltb-true, ltb-false, eqb-true, eqb-false}
 use Rattle.characters.specs.Ranges.{within}
@@ -19,8 +19,8 @@ use Rattle.characters.proofs.Within.{above_not}
 use Rattle.recognisers.specs.declared.Taken.TheVariants.{Fails}
 use Rattle.recognisers.specs.Inner.WordLength.{word_length}
 use Rattle.recognisers.specs.Taking.{Taker, more, one, capital, blanks, end_of_word, count, contains}
-use Rattle.reserved.specs.Phrases.{walk, after, optional}
-use Rattle.reserved.specs.Inner.Entries.{Entry, Nothing, length_of, group_of, entries, if_exists, ending, entry_end, chosen, find_entry, encoded, entries_of, entries_long, table_find}
+use Rattle.reserved.specs.Phrases.{walk, optional}
+use Rattle.reserved.specs.Inner.Entries.{Nothing, length_of, group_of, entries, if_exists, ending, entry_end, chosen, find_entry, encoded, entries_of, entries_long, table_find}
 use Rattle.reserved.proofs.FirstEntry.{encoded_find, NoneOf, none_of}
 
 -- ---- an ASCII word character at the start of the text

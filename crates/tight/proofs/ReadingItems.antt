@@ -1,6 +1,6 @@
 -- A reading counted from where it stands, and its tokens with what is told of the gaps between them.
 -- Assumes nothing.
-use Prim.Native.Nat.{ℕ, zero, suc, ◌+◌, ◌-◌, pred}
+use Prim.Native.Nat.{ℕ, zero, suc, ◌+◌, pred}
 use native.Mathlib.Nat.{add_assoc}
 use native.Mathlib.Numerals.{add-one}
 use native.Mathlib.Omega.{arith}
@@ -25,11 +25,9 @@ use Rattle.recognisers.specs.Pieces.{piece}
 use Rattle.recognisers.specs.Words.{get_whitespace_token}
 use Rattle.tokenizer.specs.declared.Memory.{Memory}
 use Rattle.calls.specs.declared.Settings.{Settings}
-use Rattle.tokenizer.specs.declared.Token.{Token}
 use Rattle.tokenizer.specs.Memory.{start, remembered}
 use Rattle.tokenizer.specs.NextToken.{get_next_token, next_piece}
 use Rattle.tokenizer.specs.Tokens.{given_out, placed, token_at, tokens_from, tokens}
-use Rattle.tokenizer.specs.Values.{value}
 use Rattle.tight.specs.Returning.{returns}
 use Rattle.tight.specs.Agree.{Meaning, meaning, Compared, compared, compared_all, reading, is_gap}
 use Rattle.tight.proofs.Whitespace.{is_blank}

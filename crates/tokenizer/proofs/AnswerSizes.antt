@@ -1,8 +1,8 @@
 -- How large the numbers of an answer can be where tokens were written.
 -- Assumes nothing.
-use Prim.Native.Nat.{ℕ, ◌*◌, ◌/◌, ◌≤◌, ◌<◌}
+use Prim.Native.Nat.{ℕ, ◌*◌, ◌/◌, ◌≤◌}
 use native.Mathlib.Omega.{arith}
-use mathlib.Core.Path.{◌≡◌, refl, sym, ◌∙◌}
+use mathlib.Core.Path.{◌≡◌, refl}
 use mathlib.Core.Bool.{Bool, true, false, cond}
 use mathlib.Core.List.{List}
 use lib.Dec.{ltb}
@@ -16,7 +16,7 @@ use Rattle.calls.proofs.Checks.{accepted_short}
 use Rattle.tokenizer.specs.declared.TableAnswer.{TableAnswer}
 use Rattle.tokenizer.specs.declared.TableAnswer.TheVariants.{Written, Refused}
 use Rattle.tokenizer.specs.Answers.{all_written, table_answer, tokenize_answer}
-use Rattle.tokenizer.specs.EscapedQuotes.{escaped_in, totals}
+use Rattle.tokenizer.specs.EscapedQuotes.{totals}
 use Rattle.tokenizer.specs.Records.{record_bytes}
 use Rattle.tokenizer.specs.Tokens.{tokens}
 use Rattle.tokenizer.proofs.EndToEnd.{tokens_short}

@@ -11,7 +11,6 @@ use Rattle.recognisers.specs.declared.Key.TheVariants.{None, Named, Escaped, Zer
 use Rattle.recognisers.specs.declared.Piece.{Piece}
 use Rattle.recognisers.specs.declared.Recognised.TheVariants as R
 use Rattle.recognisers.specs.declared.TokenKind.{TokenKind}
-use Rattle.recognisers.specs.declared.TokenKind.TheVariants
 use Rattle.recognisers.specs.Kinds.{kind_number}
 use Rattle.recognisers.proofs.PieceSizes.{KeyFits, Sized}
 use Rattle.tokenizer.specs.declared.Memory.{Memory}

@@ -12,7 +12,7 @@ use Rattle.recognisers.specs.declared.Key.TheVariants.{None, Named, ZeroIndexed,
 use Rattle.recognisers.specs.declared.TokenKind.{TokenKind}
 use Rattle.recognisers.specs.declared.TokenKind.TheVariants as K
 use Rattle.recognisers.specs.Kinds.{is_kind}
-use Rattle.recognisers.specs.Text.{byte, bytes}
+use Rattle.recognisers.specs.Text.{bytes}
 use Rattle.calls.specs.declared.Settings.{Settings}
 use Rattle.tokenizer.specs.declared.Token.{Token}
 use Rattle.characters.specs.Alphabetic.{alphabetic}

@@ -1,6 +1,5 @@
 -- What a caller of `tokenize` is told, and what becomes of the table lent.
 use Rattle.std.specs.Prelude.{ℕ, ◌/◌, cond, List, ltb, length}
-use Rattle.calls.specs.declared.Checked.{Checked}
 use Rattle.calls.specs.declared.Refusal.TheVariants.{TableFull}
 use Rattle.calls.specs.declared.Settings.{Settings}
 use Rattle.calls.specs.Checks.{checked, accepted_or}

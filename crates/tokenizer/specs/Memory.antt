@@ -1,7 +1,6 @@
 -- What `tokenize` remembers of earlier tokens: only what is asked of them.
 use Rattle.std.specs.Prelude.{ℕ, Bool, true, false, cond, List, [], ◌∷◌, take}
 use Rattle.recognisers.specs.declared.TokenKind.{TokenKind}
-use Rattle.recognisers.specs.declared.TokenKind.TheVariants
 use Rattle.recognisers.specs.Kinds.{is_kind, is_one_of}
 use Rattle.recognisers.specs.Text.{bytes}
 use Rattle.reserved.specs.declared.TopLevel.{TopLevel}

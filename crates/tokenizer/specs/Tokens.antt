@@ -1,9 +1,8 @@
 -- `tokenize`: the tokens of a statement.
-use Rattle.std.specs.Prelude.{ℕ, zero, suc, ◌+◌, pred, Bool, true, false, cond, List, [], ◌∷◌, ltb, length, take, drop}
+use Rattle.std.specs.Prelude.{ℕ, zero, suc, ◌+◌, pred, Bool, cond, List, [], ◌∷◌, ltb, length, take, drop}
 use Rattle.recognisers.specs.declared.Key.{Key}
 use Rattle.recognisers.specs.declared.Key.TheVariants.{None, Named, Escaped, ZeroIndexed, OneIndexed}
 use Rattle.recognisers.specs.declared.TokenKind.{TokenKind}
-use Rattle.recognisers.specs.declared.TokenKind.TheVariants
 use Rattle.recognisers.specs.Kinds.{is_kind}
 use Rattle.recognisers.specs.declared.Piece.{Piece}
 use Rattle.recognisers.specs.declared.Recognised.{Recognised}

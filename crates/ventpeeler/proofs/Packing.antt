@@ -9,7 +9,6 @@ use Rattle.calls.specs.declared.Refusal.{Refusal}
 use Rattle.calls.specs.declared.Refusal.TheVariants.{Overlong, NotUtf8, Setting, TableFull, Sheet, OutputFull, PartsFull}
 use Rattle.calls.specs.declared.TextAnswer.{TextAnswer}
 use Rattle.calls.specs.declared.TextAnswer.TheVariants as Text
-use Rattle.calls.specs.Checks.{longest}
 use Rattle.calls.specs.Refusals.{refusal_number, refusal_detail}
 use Rattle.calls.specs.Texts.{text_number, text_detail}
 use Rattle.tokenizer.specs.declared.TableAnswer.{TableAnswer}
