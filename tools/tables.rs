@@ -1,5 +1,4 @@
-// Prints the tables of the crate `characters`: for each class its ranges as specs/ has them, its const
-// arrays as src/ has them, and the proof that the arrays hold the ranges.
+// Prints the tables of the crate `characters`: for each class its ranges as specs/ has them, and the array of them as src/ has it.
 //
 //     tables DIR      writes the files below DIR, the folder of the crate
 //     tables sweep    prints the ranges of every class, as the program `sweep` is to print them
@@ -21,9 +20,6 @@ struct Class {
     test: fn(char) -> bool,
     from: String,
 }
-
-// At most so many ranges stand in one array.
-const MOST: usize = 32;
 
 fn classes() -> Vec<Class> {
     let (major, minor, patch) = char::UNICODE_VERSION;
@@ -80,75 +76,21 @@ fn spec(class: &Class, ranges: &[Range]) -> String {
 }
 
 fn source(class: &Class, ranges: &[Range]) -> String {
-    let chunks: Vec<&[Range]> = ranges.chunks(MOST).collect();
     let mut out = String::new();
     writeln!(out, "// {}: {}. Made by tools/tables.rs.", class.what, class.from).unwrap();
-    writeln!(out, "// Each range is its first code point and the one past its last. An array has at most {MOST} ranges.").unwrap();
-    writeln!(out, "// A lookup borrows the one that it reaches: a copy would cost every call its size of stack.").unwrap();
     writeln!(out, "ghost use Rattle.std.specs.Prelude.{{◌≡◌}};").unwrap();
     writeln!(out, "ghost use Rattle.characters.specs.Ranges.{{in_ranges}};").unwrap();
     writeln!(out, "ghost use Rattle.characters.specs.{}.{{{}}};", class.file, class.definition).unwrap();
     writeln!(out, "\nuse crate::ranges::in_ranges;").unwrap();
-    for chunk in &chunks {
-        write!(out, "\nconst FROM_{:04X}: [u32; {}] = [", chunk[0].0, 2 * chunk.len()).unwrap();
-        for (first, last) in *chunk {
-            write!(out, "{first:#06X}, {:#06X}, ", last + 1).unwrap();
-        }
-        writeln!(out, "];").unwrap();
+    writeln!(out, "\n// Each range is its first and its last code point.").unwrap();
+    writeln!(out, "const RANGES: [(u32, u32); {}] = [", ranges.len()).unwrap();
+    for (first, last) in ranges {
+        writeln!(out, "    ({first:#06X}, {last:#06X}),").unwrap();
     }
+    writeln!(out, "];").unwrap();
     writeln!(out, "\npub fn contains(c: u32) -> bool").unwrap();
     writeln!(out, "    ensures {{ result ≡ in_ranges {} c }}\n{{", class.definition).unwrap();
-    if chunks.len() == 1 {
-        writeln!(out, "    in_ranges(&FROM_{:04X}, c)\n}}", chunks[0][0].0).unwrap();
-        return out;
-    }
-    writeln!(out, "    match c {{").unwrap();
-    for (i, chunk) in chunks.iter().enumerate() {
-        let from = if i == 0 { 0 } else { chunk[0].0 };
-        match chunks.get(i + 1) {
-            Some(next) => write!(out, "        {from:#06X}..={:#06X}", next[0].0 - 1).unwrap(),
-            None => write!(out, "        _").unwrap(),
-        }
-        writeln!(out, " => in_ranges(&FROM_{:04X}, c),", chunk[0].0).unwrap();
-    }
-    writeln!(out, "    }}\n}}").unwrap();
-    out
-}
-
-// The goals of `contains`, one for each arm, each with the part of the table that it looks in.
-fn answers(class: &Class, ranges: &[Range]) -> String {
-    let Class { file, module, definition, .. } = class;
-    let law = format!("{module}_ordered");
-    let chunks: Vec<&[Range]> = ranges.chunks(MOST).collect();
-    let laws = if chunks.len() == 1 { "last_part_is" } else { "part_is, last_part_is" };
-    let mut out = String::new();
-    writeln!(out, "-- Each arm looks in the part of the table that serves its code points. Made by tools/tables.rs.").unwrap();
-    writeln!(out, "-- Assumes nothing.").unwrap();
-    writeln!(out, "use native.Mathlib.Omega.{{arith}}\nuse mathlib.Core.Path.{{refl}}").unwrap();
-    writeln!(out, "use Rattle.characters.specs.Inner.Ends.{{ends_of}}").unwrap();
-    writeln!(out, "use Rattle.characters.specs.{file}.{{{definition}}}").unwrap();
-    writeln!(out, "use Rattle.characters.proofs.Ordered.{{{law}}}").unwrap();
-    writeln!(out, "use Rattle.characters.proofs.TableParts.{{{laws}}}").unwrap();
-    writeln!(out, "use Rattle.characters.proofs.{module}.contains.Goals as goal").unwrap();
-    for (i, chunk) in chunks.iter().enumerate() {
-        let low = if i == 0 { 0 } else { chunk[0].0 };
-        let high = chunks.get(i + 1).map(|next| next[0].0 - 1);
-        // what Rattle adds to a name for the arm that it stands in; the first call has its name alone
-        let arm = match high {
-            _ if chunks.len() == 1 => String::new(),
-            Some(high) => format!("-in-{low}-to-{high}"),
-            None => "-in_default".to_string(),
-        };
-        let goal = format!("returns{arm}");
-        let call = if i == 0 { "in_ranges".to_string() } else { format!("in_ranges{arm}") };
-        let part = format!("{definition} {law} {} {} {low:#06X}", i * MOST, chunk.len());
-        let answer = match high {
-            Some(high) => format!("part_is {part} {high:#06X} refl _ _ (omega arith) (omega arith)"),
-            None => format!("last_part_is {part} refl refl _ _ (omega arith)"),
-        };
-        writeln!(out, "\npub {goal} : goal.{goal}\nunfolding {definition} ends_of").unwrap();
-        writeln!(out, "{goal} c = {answer} c.{call}.ensures").unwrap();
-    }
+    writeln!(out, "    in_ranges(&RANGES, c)\n}}").unwrap();
     out
 }
 
@@ -183,6 +125,5 @@ fn main() {
         let ranges = ranges(class.test);
         fs::write(format!("{target}/specs/{}.antt", class.file), spec(&class, &ranges)).unwrap();
         fs::write(format!("{target}/src/{}.rt", class.module), source(&class, &ranges)).unwrap();
-        fs::write(format!("{target}/proofs/{}/contains/Answers.antt", class.module), answers(&class, &ranges)).unwrap();
     }
 }

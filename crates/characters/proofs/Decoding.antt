@@ -140,14 +140,13 @@ module _ (s : List ℕ) (wanted : ℕ) where
         let none : drop (suc i) s ≡ [] = drop_of_length-le s (rw add-one at l) in
         broken s wanted i at.calls (le_trans (suc-le-suc zero-le) at.there) (at.got ∙ rw (more_wanted, none) (add-zero i)) h
 
-  pub decode_end : (value i : ℕ) → DecodeAt s wanted value i → wanted ≤ i → ◌≡◌ {A = Character} (record { code_point = value; len = i + 1 }) (character s)
+  pub decode_end : (value i : ℕ) → DecodeAt s wanted value i → wanted ≤ i → ◌≡◌ {A = Character} (record { code_point = value; len = wanted + 1 }) (character s)
   unfolding continued
   decode_end value i at h =
       let m = at.inside in
       let q : i ≡ wanted = omega arith in
       let none : wanted - i ≡ 0 = omega arith in
-      rw q
-      (whole s wanted value at.calls (le_trans (suc-le-suc zero-le) at.there) (at.got ∙ rw none (rw (add-zero i) q)) (rw q at at.value_is))
+      whole s wanted value at.calls (le_trans (suc-le-suc zero-le) at.there) (at.got ∙ rw none (rw (add-zero i) q)) (rw q at at.value_is)
 
 pub decode_none : (s : List ℕ) → length s ≡ 0 → ◌≡◌ {A = Character} (record { code_point = 0; len = 0 }) (character s)
 unfolding character code_point character_length

@@ -11,12 +11,14 @@ use lib.Seq.{drop-drop}
 use lib.Dec.{ltb}
 use mir.Syntax.{w64}
 use mir.Val.{Fits}
-use borrow.Author.Tests.{lt-ltb, le-ltb, le-leb, ltb-true}
-use Rattle.characters.specs.declared.IllFormed.TheVariants.{At, Nowhere}
+use borrow.Author.Tests.{lt-ltb, le-ltb, le-leb, ltb-true, ltb-false}
+use Rattle.std.specs.Bool.{then_some}
+use Rattle.std.specs.declared.option.Option.{Option}
+use Rattle.std.specs.declared.option.Option.TheVariants.{Some, None}
 use Rattle.characters.specs.Ranges.{within}
 use Rattle.characters.specs.Inner.Blocks.{ascii_run}
 use Rattle.characters.specs.Utf8.{table_3_7, fits_row, sequence_in, sequence_length, well_formed_from, first_ill_formed}
-use Rattle.characters.proofs.SequenceRows.{Rows}
+use Rattle.characters.proofs.SequenceRows.{Rows, sequence_at}
 use Rattle.characters.proofs.Rests.{part_end}
 
 -- ---- the sequence lies inside
@@ -88,6 +90,30 @@ ascii_pass (b ∷ s) = go (ltb b 0x80) refl (ascii_pass s)
         ∙ rw (suc-add 0 (well_formed_from 0 s), zero-add, ih) (sym (suc-add (ascii_run s) (well_formed_from 0 (drop (ascii_run s) s)))))
     go false e ih = rw e (sym (zero-add (well_formed_from 0 (b ∷ s))))
 
+-- ---- what `sequence_length` answers
+
+record Found (s : List ℕ) (n : ℕ) : Type 0 where
+  some : 0 < n
+  is : n ≡ sequence_length s
+
+found_is : (s : List ℕ) (n : ℕ) → Some n ≡ sequence_at s → Found s n
+found_is s n e = go (ltb 0 (sequence_length s)) refl e
+  where
+    go : (t : Bool) → ltb 0 (sequence_length s) ≡ t → Some n ≡ then_some t (sequence_length s) → Found s n
+    go true q f = let k : n ≡ sequence_length s = cc in record { some = rw k (ltb-true 0 (sequence_length s) q); is = k }
+    go false q f = absurd (let z : ⊥ = cc in z)
+
+none_is : (s : List ℕ) → None ≡ sequence_at s → sequence_length s ≡ 0
+none_is s e = go (ltb 0 (sequence_length s)) refl e
+  where
+    go : (t : Bool) → ltb 0 (sequence_length s) ≡ t → None ≡ then_some t (sequence_length s) → sequence_length s ≡ 0
+    go true q f = absurd (let z : ⊥ = cc in z)
+    go false q f = let k = ltb-false 0 (sequence_length s) q in omega arith
+
+pass_found : (s : List ℕ) (n : ℕ) → Found s n → well_formed_from 0 s ≡ n + well_formed_from 0 (drop n s)
+pass_found s zero f = absurd (not-suc-le-zero f.some)
+pass_found s (suc n) f = step s n (sym f.is)
+
 -- ---- the loop
 
 -- the first `at` bytes are well-formed sequences
@@ -120,38 +146,41 @@ module _ (s : List ℕ) (at r : ℕ) (v : ValidAt s at) (e : r ≡ ascii_run (ta
             ∙ rw (ascii_pass (drop at s), ← run_is, drop-drop r at s) (sym (add_assoc at r (well_formed_from 0 (drop (at + r) s))));
       }
 
-  module _ (n : ℕ) (h : at + r < length s) (d : n ≡ sequence_length (take (length s - (at + r)) (drop (at + r) s))) where
-    length_is : n ≡ sequence_length (drop (at + r) s)
-    length_is = rw (part_end s (at + r)) at d
+  module _ (x : Option ℕ) (h : at + r < length s) (d : x ≡ sequence_at (take (length s - (at + r)) (drop (at + r) s))) where
+    at_is : x ≡ sequence_at (drop (at + r) s)
+    at_is = rw (part_end s (at + r)) at d
 
-    within_text : at + r + n ≤ length s
-    within_text =
-        let i = sequence_inside (drop (at + r) s) in
-        let l = length-drop (at + r) s in
-        omega (arith, length_is)
+    module _ (n : ℕ) (k : x ≡ Some n) where
+      found : Found (drop (at + r) s) n
+      found = found_is (drop (at + r) s) n (sym k ∙ at_is)
 
-    pub sequence_fits : length s < 2 ^ 64 → Fits w64 (at + r + n)
-    sequence_fits f = record { fits = omega (arith, within_text) }
+      within_text : at + r + n ≤ length s
+      within_text =
+          let i = sequence_inside (drop (at + r) s) in
+          let l = length-drop (at + r) s in
+          omega (arith, found.is)
 
-    pub valid_sequence : (n ≡ 0 → ⊥) → ValidAt s (at + r + n)
-    valid_sequence z = go n refl
-      where
-        go : (m : ℕ) → n ≡ m → ValidAt s (at + r + n)
-        go zero q = absurd (z q)
-        go (suc m) q =
-            record {
-              inside = within_text;
-              same = valid_ascii.same
-                  ∙ rw (step (drop (at + r) s) m (sym length_is ∙ q), drop-drop (suc m) (at + r) s, ← q) (sym (add_assoc (at + r) n (well_formed_from 0 (drop (at + r + n) s))));
-            }
+      pub sequence_fits : length s < 2 ^ 64 → Fits w64 (at + r + n)
+      sequence_fits f = record { fits = omega (arith, within_text) }
 
-    pub valid_stop : n ≡ 0 → At (at + r) ≡ first_ill_formed s
+      pub sequence_shorter : length s - (at + r + n) < length s - at
+      sequence_shorter = omega (arith, found.some, within_text)
+
+      pub valid_sequence : ValidAt s (at + r + n)
+      valid_sequence =
+          record {
+            inside = within_text;
+            same = valid_ascii.same
+                ∙ rw (pass_found (drop (at + r) s) n found, drop-drop n (at + r) s) (sym (add_assoc (at + r) n (well_formed_from 0 (drop (at + r + n) s))));
+          }
+
+    pub valid_stop : x ≡ None → Some (at + r) ≡ first_ill_formed s
     unfolding first_ill_formed
     valid_stop z =
-        let w : well_formed_from 0 s ≡ at + r = valid_ascii.same ∙ rw (stop (drop (at + r) s) (sym length_is ∙ z)) (add-zero (at + r)) in
+        let w : well_formed_from 0 s ≡ at + r = valid_ascii.same ∙ rw (stop (drop (at + r) s) (none_is (drop (at + r) s) (sym z ∙ at_is))) (add-zero (at + r)) in
         rw (w, lt-ltb (at + r) (length s) h)
 
-pub valid_end : (s : List ℕ) (at : ℕ) → ValidAt s at → length s ≤ at → Nowhere ≡ first_ill_formed s
+pub valid_end : (s : List ℕ) (at : ℕ) → ValidAt s at → length s ≤ at → None ≡ first_ill_formed s
 unfolding first_ill_formed
 valid_end s at v h =
     let w : length s ≤ well_formed_from 0 s = rw v.same (le_trans h (omega arith)) in

@@ -1,6 +1,6 @@
 -- Laws that the proofs cite.
 pub mod Search
-pub mod TableParts
+pub mod OrderedRanges
 pub mod Ordered
 pub mod AsciiBlocks
 pub mod SequenceRows

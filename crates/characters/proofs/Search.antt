@@ -1,110 +1,62 @@
--- The search halves what is left of ascending ends, and the number of ends up to a code point tells whether it lies in a
--- range.
+-- A search by the ranges' last code points finds the one range that may hold a code point.
 -- Assumes nothing.
-use Prim.Native.Nat.{ℕ, zero, suc, ◌+◌, ◌-◌, ◌/◌, ◌%◌, ◌≤◌, ◌<◌, zero-le, suc-le-suc}
-use native.Mathlib.Nat.{le_refl, le_trans, lt_of_lt_of_le, le_of_suc-le-suc, not-suc-le-zero}
+use Prim.Native.Nat.{ℕ, zero, suc, ◌≤◌, ◌<◌, zero-le, suc-le-suc}
+use native.Mathlib.Nat.{le_trans, le_of_suc-le-suc, not-suc-le-zero}
 use native.Mathlib.Omega.{arith}
-use mathlib.Core.Path.{◌≡◌, refl, sym}
-use mathlib.Core.List.{List, [], ◌∷◌}
-use mathlib.Core.Bool.{true, and-eq-true_iff}
+use mathlib.Core.Path.{◌≡◌, sym, ◌∙◌}
+use mathlib.Core.List.{[], ◌∷◌}
+use mathlib.Core.Bool.{Bool, true, false, cond, ◌&&◌, or-false, and-true, and-false}
 use lib.ListN.{length, get_or}
-use lib.Dec.{eqb, leb}
-use borrow.Author.Tests.{leb-true, le-leb, lt-leb, lt-ltb, le-ltb}
-use Rattle.characters.specs.Inner.Ends.{ascending, in_ends, EndsUpTo}
+use lib.Dec.{leb, ltb, leb-suc-suc}
+use borrow.Author.Tests.{le-leb, lt-leb, lt-ltb, le-ltb, ltb-true, ltb-false}
+use Rattle.std.specs.List.Sorted.{IsPartitionedBy, IsPartitionPoint}
+use Rattle.characters.specs.Ranges.{within, in_ranges, ordered}
+use Rattle.characters.proofs.OrderedRanges.{Ranges, first, below_all}
 
-pub ascends : (ends : List ℕ) → ascending ends ≡ true → (p q : ℕ) → p ≤ q → q < length ends → get_or ends p 0 ≤ get_or ends q 0
-unfolding ascending
-ascends [] e p q h l = absurd (not-suc-le-zero l)
-ascends (a ∷ []) e zero zero h l = le_refl a
-ascends (a ∷ []) e zero (suc q) h l = absurd (not-suc-le-zero (le_of_suc-le-suc l))
-ascends (a ∷ []) e (suc p) zero h l = absurd (not-suc-le-zero h)
-ascends (a ∷ []) e (suc p) (suc q) h l = absurd (not-suc-le-zero (le_of_suc-le-suc l))
-ascends (a ∷ b ∷ ends) e zero zero h l = le_refl a
-ascends (a ∷ b ∷ ends) e zero (suc q) h l =
-    let both = (and-eq-true_iff (leb a b) (ascending (b ∷ ends))).0 e in
-    le_trans (leb-true a b both.0) (ascends (b ∷ ends) both.1 zero q zero-le (le_of_suc-le-suc l))
-ascends (a ∷ b ∷ ends) e (suc p) zero h l = absurd (not-suc-le-zero h)
-ascends (a ∷ b ∷ ends) e (suc p) (suc q) h l =
-    ascends (b ∷ ends) ((and-eq-true_iff (leb a b) (ascending (b ∷ ends))).0 e).1 p q (le_of_suc-le-suc h) (le_of_suc-le-suc l)
+-- the range ends before c
+abbrev pub ends_before : ℕ → ℕ × ℕ → Bool
+ends_before c range = ltb range.1 c
 
--- ---- the loop
+ends_above : (least : ℕ) (ranges : Ranges) → ordered least ranges ≡ true → (k : ℕ) (d : ℕ × ℕ) → k < length ranges → least ≤ (get_or ranges k d).1
+ends_above least [] e k d h = absurd (not-suc-le-zero h)
+ends_above least (range ∷ ranges) e zero d h = let f = first least range ranges e in le_trans f.starts f.some
+ends_above least (range ∷ ranges) e (suc k) d h =
+    let f = first least range ranges e in
+    let a = ends_above (suc range.1) ranges f.rest k d (le_of_suc-le-suc h) in
+    le_trans f.starts (le_trans f.some (le_trans (omega arith) a))
 
-not_suc_le_self : {k n : ℕ} → n ≤ k → k < n → ⊥
-not_suc_le_self h l = omega arith
+pub parted : (least : ℕ) (ranges : Ranges) (c : ℕ) → ordered least ranges ≡ true → IsPartitionedBy (ends_before c) ranges
+parted least [] c e i j d h l t = absurd (not-suc-le-zero l)
+parted least (range ∷ ranges) c e zero zero d h l t = t
+parted least (range ∷ ranges) c e zero (suc j) d h l t =
+    let f = first least range ranges e in
+    let a = ends_above (suc range.1) ranges f.rest j d (le_of_suc-le-suc l) in
+    lt-ltb range.1 c (le_trans a (le_trans (omega arith) (ltb-true _ c t)))
+parted least (range ∷ ranges) c e (suc i) zero d h l t = absurd (not-suc-le-zero h)
+parted least (range ∷ ranges) c e (suc i) (suc j) d h l t =
+    parted (suc range.1) ranges c (first least range ranges e).rest i j d (le_of_suc-le-suc h) (le_of_suc-le-suc l) t
 
-pub record SearchAt (ends : List ℕ) (c low high : ℕ) : Type 0 where
-  pub order : low ≤ high
-  pub inside : high ≤ length ends
-  pub below : ascending ends ≡ true → (k : ℕ) → k < low → get_or ends k 0 ≤ c
-  pub above : ascending ends ≡ true → (k : ℕ) → high ≤ k → k < length ends → c < get_or ends k 0
+abbrev pub Reached : Ranges → ℕ → ℕ → Type 0
+Reached ranges c n = IsPartitionPoint (λ r. ends_before c r ≡ true) (λ r. ends_before c r ≡ false) ranges n
 
-module _ (ends : List ℕ) (c : ℕ) where
-  pub search_start : SearchAt ends c 0 (length ends)
-  search_start =
-      record {
-        order = zero-le;
-        inside = le_refl (length ends);
-        below = λ e k h. absurd (not-suc-le-zero h);
-        above = λ e k h l. absurd (not_suc_le_self h l);
-      }
+reached_is : (least : ℕ) (ranges : Ranges) (c n : ℕ) (d : ℕ × ℕ) → ordered least ranges ≡ true → Reached ranges c n
+    → cond (ltb n (length ranges)) (leb (get_or ranges n d).0 c) false ≡ in_ranges ranges c
+unfolding in_ranges within
+reached_is least [] c n d e r = rw (le-ltb n 0 zero-le)
+reached_is least (range ∷ ranges) c zero d e r =
+    let f = first least range ranges e in
+    let h : c ≤ range.1 = ltb-false range.1 c (r.1 zero d zero-le (suc-le-suc zero-le)) in
+    rw (lt-ltb 0 (length (range ∷ ranges)) (suc-le-suc zero-le), le-leb c range.1 h, below_all (suc range.1) ranges c f.rest (suc-le-suc h)) (sym (or-false (leb range.0 c && true) ∙ and-true (leb range.0 c)))
+reached_is least (range ∷ ranges) c (suc n) d e r =
+    let f = first least range ranges e in
+    let h : range.1 < c = ltb-true range.1 c (r.0 zero d zero-le (suc-le-suc zero-le)) in
+    rw (leb-suc-suc (suc n) (length ranges), lt-leb c range.1 h, and-false (leb range.0 c))
+    (reached_is (suc range.1) ranges c n d f.rest
+    ((λ k d' h l. r.0 (suc k) d' zero-le (suc-le-suc l)), (λ k d' h l. r.1 (suc k) d' (suc-le-suc h) (suc-le-suc l))))
 
-  module _ (low high : ℕ) (at : SearchAt ends c low high) (h : low < high) where
-    pub search_up : get_or ends (low + (high - low) / 2) 0 ≤ c → SearchAt ends c (low + (high - low) / 2 + 1) high
-    search_up t =
-        let within = at.inside in
-        record {
-          order = omega arith;
-          inside = within;
-          below = λ e k l. le_trans (ascends ends e k (low + (high - low) / 2) (omega arith) (omega arith)) t;
-          above = at.above;
-        }
+module _ (ranges : Ranges) (c n : ℕ) (e : ordered 0 ranges ≡ true) (r : Reached ranges c n) where
+  pub reached_inside : n < length ranges → leb (get_or ranges n (0, 0)).0 c ≡ in_ranges ranges c
+  reached_inside h = rw (lt-ltb _ _ h) at (reached_is 0 ranges c n (0, 0) e r)
 
-    pub search_down : c < get_or ends (low + (high - low) / 2) 0 → SearchAt ends c low (low + (high - low) / 2)
-    search_down t =
-        let within = at.inside in
-        record {
-          order = omega arith;
-          inside = omega arith;
-          below = at.below;
-          above = λ e k m l. lt_of_lt_of_le t (ascends ends e (low + (high - low) / 2) k m l);
-        }
-
-  pub search_end : (low high : ℕ) → SearchAt ends c low high → high ≤ low → ascending ends ≡ true → EndsUpTo ends c low
-  search_end low high at h e =
-      let order = at.order in
-      let within = at.inside in
-      record { inside = omega arith; below = at.below e; above = λ k m l. at.above e k (omega arith) l }
-
--- ---- the number of ends up to c
-
-tail : (a b : ℕ) (ends : List ℕ) (c n : ℕ) → EndsUpTo (a ∷ b ∷ ends) c (suc (suc n)) → EndsUpTo ends c n
-tail a b ends c n at =
-    record {
-      inside = le_of_suc-le-suc (le_of_suc-le-suc at.inside);
-      below = λ k h. at.below (suc (suc k)) (suc-le-suc (suc-le-suc h));
-      above = λ k h l. at.above (suc (suc k)) (suc-le-suc (suc-le-suc h)) (suc-le-suc (suc-le-suc l));
-    }
-
-none_up_to : (a b : ℕ) (ends : List ℕ) (c : ℕ) → EndsUpTo (a ∷ b ∷ ends) c 0 → EndsUpTo ends c 0
-none_up_to a b ends c at =
-    record {
-      inside = zero-le;
-      below = λ k h. absurd (not-suc-le-zero h);
-      above = λ k h l. at.above (suc (suc k)) zero-le (suc-le-suc (suc-le-suc l));
-    }
-
-pub odd_inside : (ends : List ℕ) (c n : ℕ) → EndsUpTo ends c n → eqb (n % 2) 1 ≡ in_ends ends c
-unfolding in_ends
-odd_inside [] c zero at = refl
-odd_inside [] c (suc n) at = absurd (not-suc-le-zero at.inside)
-odd_inside (a ∷ []) c zero at = sym (lt-leb a c (at.above 0 zero-le (suc-le-suc zero-le)))
-odd_inside (a ∷ []) c (suc zero) at = sym (le-leb a c (at.below 0 (suc-le-suc zero-le)))
-odd_inside (a ∷ []) c (suc (suc n)) at = absurd (not-suc-le-zero (le_of_suc-le-suc at.inside))
-odd_inside (a ∷ b ∷ ends) c zero at =
-    rw (lt-leb a c (at.above 0 zero-le (suc-le-suc zero-le))) (odd_inside ends c 0 (none_up_to a b ends c at))
-odd_inside (a ∷ b ∷ ends) c (suc zero) at =
-    rw (le-leb a c (at.below 0 (suc-le-suc zero-le)), lt-ltb c b (at.above 1 (le_refl 1) (suc-le-suc (suc-le-suc zero-le))))
-odd_inside (a ∷ b ∷ ends) c (suc (suc n)) at =
-    let same : suc (suc n) % 2 ≡ n % 2 = omega arith in
-    rw (same, le-leb a c (at.below 0 (suc-le-suc zero-le)), le-ltb c b (at.below 1 (suc-le-suc (suc-le-suc zero-le))))
-    (odd_inside ends c n (tail a b ends c n at))
+  pub reached_end : length ranges ≤ n → ltb n (length ranges) ≡ in_ranges ranges c
+  reached_end h = let f = le-ltb _ _ h in f ∙ (rw f at (reached_is 0 ranges c n (0, 0) e r))

@@ -1,6 +1,6 @@
 -- The sequence at the start of some bytes, by the row of table 3-7 that its first byte picks.
 -- Assumes nothing.
-use Prim.Native.Nat.{ℕ, zero, suc, ◌≤◌, ◌<◌, suc-le-suc}
+use Prim.Native.Nat.{ℕ, zero, suc, ◌≤◌, ◌<◌, suc-le-suc, zero-le}
 use native.Mathlib.Nat.{le_trans, lt_of_lt_of_le, not-suc-le-zero}
 use native.Mathlib.Omega.{arith}
 use mathlib.Core.Path.{◌≡◌, refl, sym, ◌∙◌}
@@ -8,11 +8,14 @@ use mathlib.Core.List.{List, [], ◌∷◌}
 use mathlib.Core.Bool.{Bool, true, false, cond, ◌&&◌, and-true, and-false}
 use lib.ListN.{length, drop, get_or, drop_of_length-le}
 use lib.Seq.{drop-cons, drop-drop}
-use lib.Dec.{leb}
-use borrow.Author.Tests.{le-leb, lt-leb, ltb-true}
+use lib.Dec.{leb, ltb}
+use borrow.Author.Tests.{le-leb, lt-leb, lt-ltb, ltb-true}
+use Rattle.std.specs.Bool.{then_some}
+use Rattle.std.specs.declared.option.Option.{Option}
+use Rattle.std.specs.declared.option.Option.TheVariants.{None}
 use Rattle.characters.specs.Ranges.{within, ordered}
 use Rattle.characters.specs.Utf8.{fits_row, sequence_in, sequence_length, table_3_7}
-use Rattle.characters.proofs.TableParts.{first, from_first, before, before_grows, closes, closes_below}
+use Rattle.characters.proofs.OrderedRanges.{first, from_first, before, before_grows, closes, closes_below}
 
 -- ---- one byte
 
@@ -38,28 +41,23 @@ starts_split range row [] = refl
 starts_split range row (b ∷ s) = rw (and-true (within range.0 range.1 b))
 
 module _ (s : List ℕ) (a : ℕ × ℕ) (r : Bool) (e : r ≡ fits_row (a ∷ []) (drop 1 s)) where
-  pub second_yes : r ≡ true → ◌≡◌ {A = ℕ} 2 (cond (fits_row (a ∷ []) (drop 1 s)) 2 0)
-  second_yes t = rw (← e, t)
+  pub second : then_some {T = ℕ} r 2 ≡ then_some (fits_row (a ∷ []) (drop 1 s)) 2
+  second = rw e
 
-  pub second_no : (row : List (ℕ × ℕ)) (n : ℕ) → r ≡ false → 0 ≡ cond (fits_row (a ∷ row) (drop 1 s)) n 0
+  pub second_no : (row : List (ℕ × ℕ)) (n : ℕ) → r ≡ false → None ≡ then_some (fits_row (a ∷ row) (drop 1 s)) n
   second_no row n f = rw (starts_split a row (drop 1 s), ← e, f)
 
-  module _ (b : ℕ × ℕ) (q : Bool) (d : q ≡ fits_row (b ∷ []) (drop 2 s)) where
-    pub third_no : (row : List (ℕ × ℕ)) (n : ℕ) → q ≡ false → 0 ≡ cond (fits_row (a ∷ b ∷ row) (drop 1 s)) n 0
+  module _ (b : ℕ × ℕ) (q : Bool) (d : q ≡ fits_row (b ∷ []) (drop 2 s)) (t : r ≡ true) where
+    pub third : then_some {T = ℕ} q 3 ≡ then_some (fits_row (a ∷ b ∷ []) (drop 1 s)) 3
+    third = rw (starts_split a (b ∷ []) (drop 1 s), drop-drop 1 1 s, ← e, ← d, t)
+
+    pub third_no : (row : List (ℕ × ℕ)) (n : ℕ) → q ≡ false → None ≡ then_some (fits_row (a ∷ b ∷ row) (drop 1 s)) n
     third_no row n f =
         rw (starts_split a (b ∷ row) (drop 1 s), drop-drop 1 1 s, starts_split b row (drop 2 s), ← d, f, and-false (fits_row (a ∷ []) (drop 1 s)))
 
-    pub third_yes : r ≡ true → q ≡ true → ◌≡◌ {A = ℕ} 3 (cond (fits_row (a ∷ b ∷ []) (drop 1 s)) 3 0)
-    third_yes t u = rw (starts_split a (b ∷ []) (drop 1 s), drop-drop 1 1 s, ← e, ← d, t, u)
-
-    module _ (c : ℕ × ℕ) (p : Bool) (f : p ≡ fits_row (c ∷ []) (drop 3 s)) where
-      pub fourth_no : r ≡ true → q ≡ true → p ≡ false → ◌≡◌ {A = ℕ} 0 (cond (fits_row (a ∷ b ∷ c ∷ []) (drop 1 s)) 4 0)
-      fourth_no t u v =
-          rw (starts_split a (b ∷ c ∷ []) (drop 1 s), drop-drop 1 1 s, starts_split b (c ∷ []) (drop 2 s), drop-drop 1 2 s, ← e, ← d, ← f, t, u, v)
-
-      pub fourth_yes : r ≡ true → q ≡ true → p ≡ true → ◌≡◌ {A = ℕ} 4 (cond (fits_row (a ∷ b ∷ c ∷ []) (drop 1 s)) 4 0)
-      fourth_yes t u v =
-          rw (starts_split a (b ∷ c ∷ []) (drop 1 s), drop-drop 1 1 s, starts_split b (c ∷ []) (drop 2 s), drop-drop 1 2 s, ← e, ← d, ← f, t, u, v)
+    pub fourth : (c : ℕ × ℕ) (p : Bool) → p ≡ fits_row (c ∷ []) (drop 3 s) → q ≡ true → then_some {T = ℕ} p 4 ≡ then_some (fits_row (a ∷ b ∷ c ∷ []) (drop 1 s)) 4
+    fourth c p f u =
+        rw (starts_split a (b ∷ c ∷ []) (drop 1 s), drop-drop 1 1 s, starts_split b (c ∷ []) (drop 2 s), drop-drop 1 2 s, ← e, ← d, ← f, t, u)
 
 -- ---- the row
 
@@ -136,17 +134,28 @@ gap_is least ((range ∷ row) ∷ rows) (suc k) b s e l h =
 
 -- as `sequence_length` uses them
 
-pub sequence_none : (s : List ℕ) → length s ≡ 0 → 0 ≡ sequence_length s
+-- the length of the sequence at the start, where there is one
+abbrev pub sequence_at : List ℕ → Option ℕ
+sequence_at s = then_some (ltb 0 (sequence_length s)) (sequence_length s)
+
+pub none_at : (s : List ℕ) → 0 ≡ sequence_length s → None ≡ sequence_at s
+none_at s e = rw (← e)
+
+pub sequence_none : (s : List ℕ) → length s ≡ 0 → None ≡ sequence_at s
 unfolding sequence_length sequence_in table_3_7 fits_row
 sequence_none [] h = refl
 sequence_none (b ∷ s) h = absurd (let z : ⊥ = omega arith in z)
 
-pub sequence_row : (k : ℕ) (s : List ℕ) (r : ℕ) → 0 < length s → (first_of (get_or table_3_7 k none)).0 ≤ get_or s 0 0 → get_or s 0 0 ≤ (first_of (get_or table_3_7 k none)).1
-    → r ≡ cond (fits_row (rest_of (get_or table_3_7 k none)) (drop 1 s)) (suc (length (rest_of (get_or table_3_7 k none)))) 0
-    → r ≡ sequence_length s
+pub sequence_row : (k : ℕ) (s : List ℕ) (r : Option ℕ) → 0 < length s → (first_of (get_or table_3_7 k none)).0 ≤ get_or s 0 0 → get_or s 0 0 ≤ (first_of (get_or table_3_7 k none)).1
+    → r ≡ then_some (fits_row (rest_of (get_or table_3_7 k none)) (drop 1 s)) (suc (length (rest_of (get_or table_3_7 k none))))
+    → r ≡ sequence_at s
 unfolding sequence_length
 sequence_row k [] r o l h e = absurd (not-suc-le-zero o)
-sequence_row k (b ∷ s) r o l h e = e ∙ sym (row_is 0 table_3_7 k b s apart l h)
+sequence_row k (b ∷ s) r o l h e = e ∙ rw (row_is 0 table_3_7 k b s apart l h) (some (fits_row (rest_of (get_or table_3_7 k none)) s) (length (rest_of (get_or table_3_7 k none))))
+  where
+    some : (t : Bool) (n : ℕ) → then_some t (suc n) ≡ then_some (ltb 0 (cond t (suc n) 0)) (cond t (suc n) 0)
+    some true n = rw (lt-ltb 0 (suc n) (suc-le-suc zero-le))
+    some false n = refl
 
 pub sequence_gap : (k : ℕ) (s : List ℕ) → 0 < length s → before 0 (firsts table_3_7) k ≤ get_or s 0 0 → closes (drop k (firsts table_3_7)) (get_or s 0 0) ≡ true → 0 ≡ sequence_length s
 unfolding sequence_length

@@ -15,7 +15,7 @@ use mathlib.Core.Bool.{Bool, true, false, cond, ◌&&◌, false≢true, and-eq-t
 use lib.ListN.{length, drop, get_or, length-drop}
 use lib.Dec.{ltb, leb, eqb}
 use borrow.Author.Tests.{le-ltb, le-leb, leb-true, ltb-true, ltb-false, eqb-true}
-use Rattle.characters.specs.declared.IllFormed.TheVariants.{At, Nowhere}
+use Rattle.std.specs.declared.option.Option.TheVariants.{Some, None}
 use Rattle.characters.specs.Ranges.{within}
 use Rattle.characters.specs.Utf8.{table_3_7, fits_row, sequence_in, sequence_length, well_formed_from, first_ill_formed, well_formed}
 use Rattle.characters.specs.Character.{is_continuation, continuations, continued, character_length}
@@ -167,16 +167,16 @@ well_formed_step b t e = go (sequence_length (b ∷ t)) refl
           rest = rw c (le-leb (length (drop (suc n) (b ∷ t))) (well_formed_from 0 (drop (suc n) (b ∷ t))) (omega (arith, all)));
         }
 
-pub ill_formed_nowhere : (s : List ℕ) → (first_ill_formed s ≡ Nowhere) ↔ (well_formed s ≡ true)
+pub ill_formed_nowhere : (s : List ℕ) → (first_ill_formed s ≡ None) ↔ (well_formed s ≡ true)
 unfolding first_ill_formed well_formed
 ill_formed_nowhere s = (to, from)
   where
-    to : cond (ltb (well_formed_from 0 s) (length s)) (At (well_formed_from 0 s)) Nowhere ≡ Nowhere → leb (length s) (well_formed_from 0 s) ≡ true
+    to : cond (ltb (well_formed_from 0 s) (length s)) (Some (well_formed_from 0 s)) None ≡ None → leb (length s) (well_formed_from 0 s) ≡ true
     to e = go (ltb (well_formed_from 0 s) (length s)) refl
       where
         go : (t : Bool) → ltb (well_formed_from 0 s) (length s) ≡ t → leb (length s) (well_formed_from 0 s) ≡ true
-        go true q = absurd (let n : At (well_formed_from 0 s) ≡ Nowhere = rw q at e in let z : ◌≡◌ {A = ℕ} 0 1 = cc in let y : ⊥ = omega arith in y)
+        go true q = absurd (let n : Some (well_formed_from 0 s) ≡ None = rw q at e in let z : ◌≡◌ {A = ℕ} 0 1 = cc in let y : ⊥ = omega arith in y)
         go false q = le-leb (length s) (well_formed_from 0 s) (ltb-false (well_formed_from 0 s) (length s) q)
 
-    from : leb (length s) (well_formed_from 0 s) ≡ true → cond (ltb (well_formed_from 0 s) (length s)) (At (well_formed_from 0 s)) Nowhere ≡ Nowhere
+    from : leb (length s) (well_formed_from 0 s) ≡ true → cond (ltb (well_formed_from 0 s) (length s)) (Some (well_formed_from 0 s)) None ≡ None
     from e = rw (le-ltb (well_formed_from 0 s) (length s) (leb-true (length s) (well_formed_from 0 s) e))

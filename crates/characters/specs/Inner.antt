@@ -1,5 +1,4 @@
 -- For the contracts of inner functions alone: no promise of the crate names any of it.
-pub mod Ends
 pub mod Blocks
 pub mod RunAt
 pub mod CommonLetters

@@ -1,8 +1,6 @@
 -- UTF-8 as the Unicode Standard defines it: a text is well formed where it is made of the byte sequences of table 3-7.
-use Rattle.std.specs.Prelude.{ℕ, zero, suc, Bool, true, false, cond, ◌&&◌, List, [], ◌∷◌, leb, ltb, length}
+use Rattle.std.specs.Prelude.{ℕ, zero, suc, Bool, true, false, cond, ◌&&◌, List, [], ◌∷◌, Option, Some, None, leb, ltb, length}
 use Rattle.characters.specs.Ranges.{within}
-use Rattle.characters.specs.declared.IllFormed.{IllFormed}
-use Rattle.characters.specs.declared.IllFormed.TheVariants.{At, Nowhere}
 
 -- Table 3-7. A row has the bytes, from first to last, that may stand at each place of a sequence.
 unfoldable pub table_3_7 : List (List (ℕ × ℕ))
@@ -40,8 +38,8 @@ well_formed_from (suc passed) (b ∷ bytes) = suc (well_formed_from passed bytes
 well_formed_from zero (b ∷ bytes) = elim (sequence_length (b ∷ bytes)) [ zero ↦ 0 | suc n ↦ suc (well_formed_from n bytes) ]
 
 -- the start of the first ill-formed sequence
-unfoldable pub first_ill_formed : List ℕ → IllFormed
-first_ill_formed bytes = cond (ltb (well_formed_from 0 bytes) (length bytes)) (At (well_formed_from 0 bytes)) Nowhere
+unfoldable pub first_ill_formed : List ℕ → Option ℕ
+first_ill_formed bytes = cond (ltb (well_formed_from 0 bytes) (length bytes)) (Some (well_formed_from 0 bytes)) None
 
 unfoldable pub well_formed : List ℕ → Bool
 well_formed bytes = leb (length bytes) (well_formed_from 0 bytes)

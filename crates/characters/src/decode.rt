@@ -1,81 +1,61 @@
 // The character at a place of a text.
-ghost use Rattle.std.specs.Prelude.{◌≡◌, ◌<◌, length, get_or, drop};
+ghost use Rattle.std.specs.Prelude.{◌≡◌, ◌<◌, length, drop};
 ghost use Rattle.characters.specs.Character.{is_continuation, continuations, first_bits, character};
 
 use crate::Character;
 
+#[tactic(auto, using(std::proofs::lemmas::Bool::Decides::nat_tests), unfolding(crate::specs::Character::is_continuation, crate::specs::Ranges::within))]
 fn is_continuation(b: u8) -> bool
     ensures { result ≡ is_continuation b }
 {
-    0x80 <= b && b <= 0xBF
+    matches!(b, 0x80..=0xBF)
 }
 
+#[tactic(auto, using(std::proofs::lemmas::Bool::Decides::nat_tests), unfolding(crate::specs::Character::continuations))]
 fn continuations_of(first: u8) -> usize
     ensures { result ≡ continuations first }
 {
-    if first < 0xC0 {
-        0
-    } else if first < 0xE0 {
-        1
-    } else if first < 0xF0 {
-        2
-    } else {
-        3
+    match first {
+        0x00..=0xBF => 0,
+        0xC0..=0xDF => 1,
+        0xE0..=0xEF => 2,
+        0xF0..=0xFF => 3,
     }
 }
 
+#[tactic(auto, using(std::proofs::lemmas::Bool::Decides::nat_tests), unfolding(crate::specs::Character::first_bits))]
 fn first_bits(first: u8) -> u32
     ensures { result ≡ first_bits first }
 {
-    if first < 0x80 {
-        wide(first)
-    } else if first < 0xC0 {
-        0
-    } else if first < 0xE0 {
-        wide(first - 0xC0)
-    } else if first < 0xF0 {
-        wide(first - 0xE0)
-    } else {
-        wide(first - 0xF0)
+    match first {
+        0x00..=0x7F => u32::from(first),
+        0x80..=0xBF => 0,
+        0xC0..=0xDF => u32::from(first - 0xC0),
+        0xE0..=0xEF => u32::from(first - 0xE0),
+        0xF0..=0xFF => u32::from(first - 0xF0),
     }
 }
 
-fn wide(b: u8) -> u32
-    ensures { result ≡ b }
-{
-    b as u32
-}
-
-// The character at the start of some bytes, by its first byte's bits and how many continuation bytes that calls for.
-fn with_continuations(bytes: &[u8], wanted: usize, bits: u32) -> Character
-    requires bytes_nonzero { 0 < length bytes.now }
-    requires wanted_value { wanted ≡ continuations (get_or bytes.now 0 0) }
-    requires bits_value { bits ≡ first_bits (get_or bytes.now 0 0) }
+// The character at the start of some bytes.
+fn first_character(bytes: &[u8]) -> Character
+    requires { 0 < length bytes.now }
     ensures { result ≡ character bytes.now }
 {
-    let mut code_point = bits;
-    let mut i = 0;
-    while i < wanted {
-        if bytes.len() <= i + 1 {
+    let first = bytes[0];
+    let wanted = continuations_of(first);
+    let mut code_point = first_bits(first);
+    for i in 0..wanted {
+        if bytes.len() <= i + 1 || !is_continuation(bytes[i + 1]) {
             return Character {
                 code_point: 0,
                 len: i + 1,
             };
         }
-        let b = bytes[i + 1];
-        if is_continuation(b) {
-            code_point = code_point * 64 + wide(b % 64);
-            i += 1;
-        } else {
-            return Character {
-                code_point: 0,
-                len: i + 1,
-            };
-        }
+        code_point = code_point * 64 + u32::from(bytes[i + 1] % 64);
     }
     Character {
-        code_point: code_point,
-        len: i + 1,
+        code_point,
+        len: wanted + 1,
     }
 }
 
@@ -89,7 +69,5 @@ pub fn character_at(text: &[u8], at: usize) -> Character
             len: 0,
         };
     }
-    let bytes = &text[at..];
-    let first = bytes[0];
-    with_continuations(bytes, continuations_of(first), first_bits(first))
+    first_character(&text[at..])
 }

@@ -23,13 +23,6 @@ pub use decode::character_at;
 pub use runs::{run_from, run_of};
 pub use utf8::first_ill_formed;
 
-// Where a text's first ill-formed sequence starts.
-#[derive(Clone, Copy)]
-pub enum IllFormed {
-    At(usize),
-    Nowhere,
-}
-
 // A code point and how many bytes it takes in a text.
 #[derive(Clone, Copy)]
 pub struct Character {

@@ -1,7 +1,6 @@
-// One range of code points, and lookup in ranges that are laid out as their ends.
-ghost use Rattle.std.specs.Prelude.{◌≡◌, true, ◌+◌};
-ghost use Rattle.characters.specs.Ranges.{within};
-ghost use Rattle.characters.specs.Inner.Ends.{in_ends, ascending, EndsUpTo};
+// One range of code points, and lookup in several.
+ghost use Rattle.std.specs.Prelude.{◌≡◌, true};
+ghost use Rattle.characters.specs.Ranges.{within, in_ranges, ordered};
 
 pub fn within(first: u32, last: u32, c: u32) -> bool
     ensures { result ≡ within first last c }
@@ -9,26 +8,10 @@ pub fn within(first: u32, last: u32, c: u32) -> bool
     first <= c && c <= last
 }
 
-// How many of the ends are at most c.
-fn ends_up_to(ends: &[u32], c: u32) -> usize
-    ensures { ascending ends.now ≡ true → EndsUpTo ends.now c result }
+// c lies in one of the ranges, which are in order.
+pub fn in_ranges(ranges: &[(u32, u32)], c: u32) -> bool
+    ensures { ordered 0 ranges.now ≡ true → result ≡ in_ranges ranges.now c }
 {
-    let mut low = 0;
-    let mut high = ends.len();
-    while low < high {
-        let middle = low + (high - low) / 2;
-        if ends[middle] <= c {
-            low = middle + 1;
-        } else {
-            high = middle;
-        }
-    }
-    low
-}
-
-// c lies in one of the ranges: the number of ends up to it is odd.
-pub fn in_ranges(ends: &[u32], c: u32) -> bool
-    ensures { ascending ends.now ≡ true → result ≡ in_ends ends.now c }
-{
-    ends_up_to(ends, c) % 2 == 1
+    let reached = ranges.partition_point(|&(_, last)| last < c);
+    reached < ranges.len() && ranges[reached].0 <= c
 }

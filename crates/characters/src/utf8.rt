@@ -1,9 +1,8 @@
 // UTF-8 as the Unicode Standard defines it, table 3-7.
-ghost use Rattle.std.specs.Prelude.{◌≡◌, cond, [], ◌∷◌, ◌+◌, ◌≤◌, length, drop};
+ghost use Rattle.std.specs.Prelude.{◌≡◌, [], ◌∷◌, ◌+◌, ◌≤◌, ltb, length, drop};
+ghost use Rattle.std.specs.Bool.{then_some};
 ghost use Rattle.characters.specs.Inner.Blocks.{ascii_run, all_ascii, AsciiUpTo};
 ghost use Rattle.characters.specs.Utf8.{fits_row, sequence_length, first_ill_formed};
-
-use crate::IllFormed;
 
 // Four bytes from i on are ASCII.
 fn four_ascii(bytes: &[u8], i: usize) -> bool
@@ -65,51 +64,44 @@ fn byte_within(bytes: &[u8], i: usize, low: u8, high: u8) -> bool
     false
 }
 
-// The lengths of sequences whose second byte lies from low to high, 0 where the bytes have none.
-fn two_bytes(bytes: &[u8], low: u8, high: u8) -> usize
-    ensures { result ≡ cond (fits_row ((low, high) ∷ []) (drop 1 bytes.now)) 2 0 }
+// The lengths of sequences whose second byte lies from low to high.
+fn two_bytes(bytes: &[u8], low: u8, high: u8) -> Option<usize>
+    ensures { result ≡ then_some (fits_row ((low, high) ∷ []) (drop 1 bytes.now)) 2 }
 {
-    if byte_within(bytes, 1, low, high) {
-        2
-    } else {
-        0
-    }
+    byte_within(bytes, 1, low, high).then_some(2)
 }
 
-fn three_bytes(bytes: &[u8], low: u8, high: u8) -> usize
-    ensures { result ≡ cond (fits_row ((low, high) ∷ (0x80, 0xBF) ∷ []) (drop 1 bytes.now)) 3 0 }
+fn three_bytes(bytes: &[u8], low: u8, high: u8) -> Option<usize>
+    ensures { result ≡ then_some (fits_row ((low, high) ∷ (0x80, 0xBF) ∷ []) (drop 1 bytes.now)) 3 }
 {
     if byte_within(bytes, 1, low, high) {
-        if byte_within(bytes, 2, 0x80, 0xBF) {
-            return 3;
-        }
+        return byte_within(bytes, 2, 0x80, 0xBF).then_some(3);
     }
-    0
+    None
 }
 
-fn four_bytes(bytes: &[u8], low: u8, high: u8) -> usize
-    ensures { result ≡ cond (fits_row ((low, high) ∷ (0x80, 0xBF) ∷ (0x80, 0xBF) ∷ []) (drop 1 bytes.now)) 4 0 }
+fn four_bytes(bytes: &[u8], low: u8, high: u8) -> Option<usize>
+    ensures { result ≡ then_some (fits_row ((low, high) ∷ (0x80, 0xBF) ∷ (0x80, 0xBF) ∷ []) (drop 1 bytes.now)) 4 }
 {
     if byte_within(bytes, 1, low, high) {
         if byte_within(bytes, 2, 0x80, 0xBF) {
-            if byte_within(bytes, 3, 0x80, 0xBF) {
-                return 4;
-            }
+            return byte_within(bytes, 3, 0x80, 0xBF).then_some(4);
         }
     }
-    0
+    None
 }
 
-// Table 3-7, row by row: the length of the well-formed sequence at the start, 0 where there is none.
-fn sequence_length(bytes: &[u8]) -> usize
-    ensures { result ≡ sequence_length bytes.now }
+// Table 3-7, row by row: the length of the well-formed sequence at the start.
+#[inline(always)]
+fn sequence_length(bytes: &[u8]) -> Option<usize>
+    ensures { result ≡ then_some (ltb 0 (sequence_length bytes.now)) (sequence_length bytes.now) }
 {
     if bytes.len() == 0 {
-        return 0;
+        return None;
     }
     let first = bytes[0];
     match first {
-        0x00..=0x7F => 1,
+        0x00..=0x7F => Some(1),
         0xC2..=0xDF => two_bytes(bytes, 0x80, 0xBF),
         0xE0 => three_bytes(bytes, 0xA0, 0xBF),
         0xE1..=0xEC => three_bytes(bytes, 0x80, 0xBF),
@@ -118,12 +110,12 @@ fn sequence_length(bytes: &[u8]) -> usize
         0xF0 => four_bytes(bytes, 0x90, 0xBF),
         0xF1..=0xF3 => four_bytes(bytes, 0x80, 0xBF),
         0xF4 => four_bytes(bytes, 0x80, 0x8F),
-        _ => 0,
+        _ => None,
     }
 }
 
-// Where the text is ill-formed first, in one pass.
-pub fn first_ill_formed(text: &[u8]) -> IllFormed
+// Where the text's first ill-formed sequence starts, in one pass.
+pub fn first_ill_formed(text: &[u8]) -> Option<usize>
     ensures { result ≡ first_ill_formed text.now }
 {
     let mut at = 0;
@@ -131,12 +123,11 @@ pub fn first_ill_formed(text: &[u8]) -> IllFormed
         let ascii = ascii_run(&text[at..]);
         at += ascii;
         if at < text.len() {
-            let n = sequence_length(&text[at..]);
-            if n == 0 {
-                return IllFormed::At(at);
+            match sequence_length(&text[at..]) {
+                Some(n) => at += n,
+                None => return Some(at),
             }
-            at += n;
         }
     }
-    IllFormed::Nowhere
+    None
 }

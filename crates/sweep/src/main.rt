@@ -5,57 +5,28 @@
 use std::io;
 use std::io::Write;
 
-const CLASSES: u32 = 8;
-
-fn name(class: u32) -> &'static str {
-    match class {
-        0 => "is_whitespace",
-        1 => "is_alphabetic",
-        2 => "is_numeric",
-        3 => "is_mark",
-        4 => "is_punctuation_connector",
-        5 => "is_alphanumeric",
-        6 => "is_word_character",
-        _ => "is_placeholder_name_character",
-    }
-}
-
-fn contains(class: u32, c: u32) -> bool {
-    match class {
-        0 => characters::is_whitespace(c),
-        1 => characters::is_alphabetic(c),
-        2 => characters::is_numeric(c),
-        3 => characters::is_mark(c),
-        4 => characters::is_punctuation_connector(c),
-        5 => characters::is_alphanumeric(c),
-        6 => characters::is_word_character(c),
-        _ => characters::is_placeholder_name_character(c),
-    }
-}
-
 fn print_range<W: Write>(output: &mut W, first: u32, last: u32) -> io::Result<()> {
     writeln!(output, "{first:04x} {last:04x}")
 }
 
-fn sweep_class<W: Write>(output: &mut W, class: u32) -> io::Result<()> {
-    let mut first: u32 = 0;
-    let mut last: u32 = 0;
-    let mut inside = false;
+fn sweep_class<W: Write, F: Fn(u32) -> bool>(
+    output: &mut W,
+    name: &str,
+    contains: F,
+) -> io::Result<()>
+    requires { F.IsAlwaysCallable contains }
+{
+    writeln!(output, "{name}")?;
+    let mut reached: Option<(u32, u32)> = None;
     for c in 0..0x110000u32 {
-        if contains(class, c) {
-            if !inside {
-                first = c;
-            }
-            inside = true;
-            last = c;
-        } else {
-            if inside {
-                print_range(output, first, last)?;
-            }
-            inside = false;
+        if contains(c) {
+            let first = reached.map_or(c, |(first, _)| first);
+            reached = Some((first, c));
+        } else if let Some((first, last)) = reached.take() {
+            print_range(output, first, last)?;
         }
     }
-    if inside {
+    if let Some((first, last)) = reached {
         print_range(output, first, last)?;
     }
     Ok(())
@@ -63,10 +34,37 @@ fn sweep_class<W: Write>(output: &mut W, class: u32) -> io::Result<()> {
 
 fn main(rt: HostRuntime) -> io::Result<()> {
     let mut output = rt.stdout();
-    for class in 0..CLASSES {
-        let name = name(class);
-        writeln!(output, "{name}")?;
-        sweep_class(&mut output, class)?;
-    }
+    sweep_class(
+        &mut output,
+        "is_whitespace",
+        |c| characters::is_whitespace(c),
+    )?;
+    sweep_class(
+        &mut output,
+        "is_alphabetic",
+        |c| characters::is_alphabetic(c),
+    )?;
+    sweep_class(&mut output, "is_numeric", |c| characters::is_numeric(c))?;
+    sweep_class(&mut output, "is_mark", |c| characters::is_mark(c))?;
+    sweep_class(
+        &mut output,
+        "is_punctuation_connector",
+        |c| characters::is_punctuation_connector(c),
+    )?;
+    sweep_class(
+        &mut output,
+        "is_alphanumeric",
+        |c| characters::is_alphanumeric(c),
+    )?;
+    sweep_class(
+        &mut output,
+        "is_word_character",
+        |c| characters::is_word_character(c),
+    )?;
+    sweep_class(
+        &mut output,
+        "is_placeholder_name_character",
+        |c| characters::is_placeholder_name_character(c),
+    )?;
     Ok(())
 }

@@ -1,9 +1,7 @@
 -- A place as one number.
-use Rattle.std.specs.Prelude.{ℕ}
-use Rattle.characters.specs.declared.IllFormed.{IllFormed}
-use Rattle.characters.specs.declared.IllFormed.TheVariants.{At, Nowhere}
+use Rattle.std.specs.Prelude.{ℕ, Option, Some, None}
 
 -- the first ill-formed place, and the length of the text where there is none
-abbrev pub place_or : IllFormed → ℕ → ℕ
-place_or (At place) length = place
-place_or Nowhere length = length
+abbrev pub place_or : Option ℕ → ℕ → ℕ
+place_or (Some place) length = place
+place_or None length = length

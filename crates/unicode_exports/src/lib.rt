@@ -8,16 +8,11 @@ ghost use Rattle.characters.specs.Utf8.{first_ill_formed};
 ghost use Rattle.characters.specs.Character.{code_point, character_length};
 ghost use Rattle.unicode_exports.specs.Place.{place_or};
 
-use characters::IllFormed;
-
 #[unsafe(no_mangle)]
 pub extern "C" fn unicode_first_ill_formed(text: &[u8]) -> usize
     ensures { result ≡ place_or (first_ill_formed text.now) (length text.now) }
 {
-    match characters::first_ill_formed(text) {
-        IllFormed::At(place) => place,
-        IllFormed::Nowhere => text.len(),
-    }
+    characters::first_ill_formed(text).unwrap_or(text.len())
 }
 
 #[unsafe(no_mangle)]

@@ -1,13 +1,7 @@
--- Each arm looks in the part of the table that serves its code points. Made by tools/tables.rs.
--- Assumes nothing.
-use native.Mathlib.Omega.{arith}
-use mathlib.Core.Path.{refl}
-use Rattle.characters.specs.Inner.Ends.{ends_of}
 use Rattle.characters.specs.Connector.{connector}
 use Rattle.characters.proofs.Ordered.{connector_ordered}
-use Rattle.characters.proofs.TableParts.{last_part_is}
 use Rattle.characters.proofs.connector.contains.Goals as goal
 
 pub returns : goal.returns
-unfolding connector ends_of
-returns c = last_part_is connector connector_ordered 0 6 0x0000 refl refl _ _ (omega arith) c.in_ranges.ensures
+unfolding connector
+returns c = c.in_ranges.ensures connector_ordered

@@ -1,12 +1,11 @@
-use mathlib.Core.Path.{◌∙◌}
+use Rattle.std.proofs.Common.{arith}
+use Rattle.std.proofs.lemmas.Bool.Decides.{nat_tests}
+use Rattle.characters.specs.Ranges.{within}
+use Rattle.characters.specs.Ascii.{is_letter}
 use Rattle.characters.specs.Runs.{in_class}
-use Rattle.characters.proofs.AsciiRule.{space_byte, word_byte}
+use Rattle.characters.proofs.AsciiRule.{name_byte}
 use Rattle.characters.proofs.runs.ascii_contains.Goals as goal
 
-pub returns-in-Whitespace : goal.returns-in-Whitespace
-unfolding in_class
-returns-in-Whitespace c = rw c.in-Whitespace.is (c.is_space.ensures ∙ space_byte _)
-
-pub returns-in-Word : goal.returns-in-Word
-unfolding in_class
-returns-in-Word c = rw c.in-Word.is (c.is_ascii_word.ensures ∙ word_byte _)
+pub returns-then-is_ascii_alphanumeric : goal.returns-then-is_ascii_alphanumeric
+unfolding in_class is_letter within
+returns-then-is_ascii_alphanumeric c = rw (c.in-PlaceholderName.is, ← name_byte c.args.b) (grind (arith, nat_tests))

@@ -1,4 +1,4 @@
-use Rattle.characters.proofs.RunLaws.{byte_more, byte_stop, run_end}
+use Rattle.characters.proofs.RunLaws.{byte_more, byte_stop, run_all}
 use Rattle.characters.proofs.runs.run_of.Goals as goal
 
 pub loop-i-preserved : goal.loop-i-preserved
@@ -8,4 +8,4 @@ pub returns-then-b-lt128 : goal.returns-then-b-lt128
 returns-then-b-lt128 c = search byte_stop
 
 pub returns : goal.returns
-returns c = search run_end
+returns c = search run_all

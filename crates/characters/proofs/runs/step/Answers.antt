@@ -1,14 +1,12 @@
-use Rattle.characters.proofs.RunLaws.{step_ascii, step_ascii_no, step_wide, step_wide_no}
+use mathlib.Core.Path.{◌∙◌}
+use Rattle.characters.proofs.RunLaws.{step_ascii, step_wide, step_end}
 use Rattle.characters.proofs.runs.step.Goals as goal
 
-pub returns-then-ascii_contains : goal.returns-then-ascii_contains
-returns-then-ascii_contains c = search step_ascii
+pub returns-then-bytes-i : goal.returns-then-bytes-i
+returns-then-bytes-i c = search step_end
 
 pub returns-then-b-lt128 : goal.returns-then-b-lt128
-returns-then-b-lt128 c = search step_ascii_no
-
-pub returns-then-contains : goal.returns-then-contains
-returns-then-contains c = search step_wide
+returns-then-b-lt128 c = c.then_some.ensures ∙ (search step_ascii)
 
 pub returns : goal.returns
-returns c = search step_wide_no
+returns c = c.then_some-2.ensures ∙ (search step_wide)

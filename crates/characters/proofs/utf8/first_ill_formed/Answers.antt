@@ -4,14 +4,14 @@ use Rattle.characters.proofs.utf8.first_ill_formed.Goals as goal
 pub overflow_add-at : goal.overflow_add-at
 overflow_add-at c = search ascii_fits
 
-pub returns-then-n-eq0 : goal.returns-then-n-eq0
-returns-then-n-eq0 c = search valid_stop
+pub returns-in-None : goal.returns-in-None
+returns-in-None c = search valid_stop
 
-pub overflow_add-at-then-at-text : goal.overflow_add-at-then-at-text
-overflow_add-at-then-at-text c = search sequence_fits
+pub overflow_add-at-in-Some : goal.overflow_add-at-in-Some
+overflow_add-at-in-Some c = search sequence_fits
 
-pub loop-at-preserved-then-at-text : goal.loop-at-preserved-then-at-text
-loop-at-preserved-then-at-text c = search valid_sequence
+pub loop-at-preserved-in-Some : goal.loop-at-preserved-in-Some
+loop-at-preserved-in-Some c = search valid_sequence
 
 pub loop-at-preserved : goal.loop-at-preserved
 loop-at-preserved c = search valid_ascii

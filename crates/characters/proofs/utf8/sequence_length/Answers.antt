@@ -1,7 +1,7 @@
 use native.Mathlib.Omega.{arith}
 use mathlib.Core.Path.{refl}
 use Rattle.characters.specs.Utf8.{table_3_7, fits_row}
-use Rattle.characters.proofs.SequenceRows.{sequence_none, sequence_row, sequence_between, sequence_gap}
+use Rattle.characters.proofs.SequenceRows.{none_at, sequence_none, sequence_row, sequence_between, sequence_gap}
 use Rattle.characters.proofs.utf8.sequence_length.Goals as goal
 
 pub returns-then-bytes-eq0 : goal.returns-then-bytes-eq0
@@ -45,8 +45,8 @@ returns-in-241-to-243 c = sequence_row 7 _ _ (omega arith) (omega arith) (omega 
 
 pub returns-in_default : goal.returns-in_default
 unfolding table_3_7
-returns-in_default c = sequence_between 1 0xC1 refl _ (omega arith) (omega arith) (omega arith)
+returns-in_default c = none_at _ (sequence_between 1 0xC1 refl _ (omega arith) (omega arith) (omega arith))
 
 pub returns-in_default-2 : goal.returns-in_default-2
 unfolding table_3_7
-returns-in_default-2 c = sequence_gap 9 _ (omega arith) (omega arith) refl
+returns-in_default-2 c = none_at _ (sequence_gap 9 _ (omega arith) (omega arith) refl)
