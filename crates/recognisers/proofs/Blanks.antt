@@ -1,10 +1,13 @@
 -- Whitespace and what follows it.
 -- Assumes nothing.
+use Rattle.std.proofs.Common.{Option, Some, None}
 use Prim.Native.Nat.{ℕ, ◌+◌, ◌-◌, ◌^◌, ◌≤◌, ◌<◌, zero-le, suc-le-suc}
 use mathlib.Core.Path.{◌≡◌, refl, sym, ◌∙◌}
 use mathlib.Core.List.{List, [], ◌∷◌}
-use mathlib.Core.Bool.{Bool, true, false}
+use mathlib.Core.Bool.{true, false}
 use lib.ListN.{length, drop, take}
+use mir.Syntax.{w64}
+use mir.Val.{Fits}
 use Rattle.characters.specs.Classes.{is_whitespace}
 use Rattle.characters.specs.Character.{code_point}
 use Rattle.characters.specs.Runs.{in_class, run}
@@ -12,10 +15,7 @@ use Rattle.characters.specs.declared.Class.TheVariants.{Whitespace}
 use Rattle.characters.proofs.ClassesApart.{end_not_white}
 use Rattle.characters.proofs.Rests.{part_end}
 use Rattle.characters.proofs.RunLaws.{run_inside, run_none_class, run_some_class}
-use Rattle.recognisers.specs.declared.Taken.{Taken}
-use Rattle.recognisers.specs.declared.Taken.TheVariants.{Fails}
-use Rattle.recognisers.specs.Taking.{Taker, taken, more, capital, is_spelled, spelled, blanks, end_of_word}
-use Rattle.recognisers.proofs.Spelling.{word_fits, word_then, word_not}
+use Rattle.recognisers.specs.Taking.{Taker, taken, more, capital, spelled, blanks, end_of_word}
 use Rattle.recognisers.proofs.TakenInside.{Inside, fits_more, then_inside, cond_inside, spelled_inside, end_of_word_inside}
 
 module _ (s : List ℕ) (n : ℕ) (e : n ≡ run (in_class Whitespace) 0 s) where
@@ -31,11 +31,11 @@ module _ (s : List ℕ) (n : ℕ) (e : n ≡ run (in_class Whitespace) 0 s) wher
       go (b ∷ t) q = run_none_class Whitespace s (rw q (suc-le-suc zero-le)) (sym e ∙ z)
 
   module _ (then : Taker) where
-    pub blanks_none : n ≡ 0 → Fails ≡ blanks then s
+    pub blanks_none : n ≡ 0 → None ≡ blanks then s
     unfolding blanks
     blanks_none z = rw (none z)
 
-    pub blanks_then : (t q : Taken) → (n ≡ 0 → ⊥) → t ≡ then (take (length s - n) (drop n s)) → q ≡ more n t → q ≡ blanks then s
+    pub blanks_then : (t q : Option ℕ) → (n ≡ 0 → ⊥) → t ≡ then (take (length s - n) (drop n s)) → q ≡ more n t → q ≡ blanks then s
     unfolding blanks in_class
     blanks_then t q z f g =
         let some : is_whitespace (code_point s) ≡ true = run_some_class Whitespace s (λ y. z (e ∙ y)) in
@@ -57,21 +57,15 @@ module _ (case : List ℕ) where
   word_inside = spelled_inside capital case end_of_word end_of_word_inside
 
   module _ (s : List ℕ) (n : ℕ) (e : n ≡ run (in_class Whitespace) 0 s) where
-    pub behind_none : n ≡ 0 → Fails ≡ blanks word s
+    pub behind_none : n ≡ 0 → None ≡ blanks word s
     behind_none = blanks_none s n e word
 
-    pub behind_then : (t q : Taken) → (n ≡ 0 → ⊥) → t ≡ word (take (length s - n) (drop n s)) → q ≡ more n t → q ≡ blanks word s
-    behind_then = blanks_then s n e word
+    module _ (t : Option ℕ) (z : n ≡ 0 → ⊥) (f : t ≡ word (take (length s - n) (drop n s))) where
+      pub behind_fails : (q : Option ℕ) → t ≡ None → q ≡ None → q ≡ blanks word s
+      behind_fails q g h = blanks_then s n e word t q z f (h ∙ rw g)
 
-    pub behind_fits : (t : Taken) → t ≡ word (take (length s - n) (drop n s)) → length s < 2 ^ 64 → n + taken t < 2 ^ 64
-    behind_fits t q f = fits_more word word_inside s n t q (blanks_fit s n e) f
+      pub behind_then : (m : ℕ) → t ≡ Some m → Some (n + m) ≡ blanks word s
+      behind_then m g = blanks_then s n e word t (Some (n + m)) z f (rw g)
 
-  module _ (w s : List ℕ) (r : Bool) (e : r ≡ is_spelled capital w s) where
-    pub end_case_yes : (t q : Taken) → r ≡ true → t ≡ blanks word (take (length s - length w) (drop (length w) s)) → q ≡ more (length w) t → q ≡ spelled capital w (blanks word) s
-    end_case_yes = word_then capital (blanks word) w s r e
-
-    pub end_case_no : r ≡ false → Fails ≡ spelled capital w (blanks word) s
-    end_case_no = word_not capital (blanks word) w s r e
-
-    pub end_case_fits : (t : Taken) → r ≡ true → t ≡ blanks word (take (length s - length w) (drop (length w) s)) → length s < 2 ^ 64 → length w + taken t < 2 ^ 64
-    end_case_fits t y q f = fits_more (blanks word) (blanks_inside word word_inside) s (length w) t q (word_fits capital (blanks word) w s r e y) f
+    pub behind_fits : (t : Option ℕ) (m : ℕ) → t ≡ word (take (length s - n) (drop n s)) → t ≡ Some m → length s < 2 ^ 64 → Fits w64 (n + m)
+    behind_fits t m q g f = let h : n + taken t < 2 ^ 64 = fits_more word word_inside s n t q (blanks_fit s n e) f in record { fits = rw g at h }

@@ -1,7 +1,7 @@
 -- Loops over the bytes at the start of a rest.
 -- Assumes nothing.
 use Prim.Native.Nat.{ℕ, zero, suc, ◌+◌, ◌≤◌, ◌<◌, min, zero-le, suc-le-suc}
-use native.Mathlib.Nat.{suc_inj, le_of_suc-le-suc, not-suc-le-zero, add-zero, zero-add, add-suc, suc-add, min-zero, zero-min, suc-min-suc, min-le_left}
+use native.Mathlib.Nat.{suc_inj, le_of_suc-le-suc, not-suc-le-zero, min-zero, zero-min, suc-min-suc, min-le_left}
 use native.Mathlib.Numerals.{add-one}
 use native.Mathlib.Omega.{arith}
 use mathlib.Core.Path.{◌≡◌, refl, sym, ap, ◌∙◌}
@@ -9,9 +9,8 @@ use mathlib.Core.List.{List, [], ◌∷◌}
 use mathlib.Core.Bool.{Bool, true, false, cond}
 use lib.ListN.{length, take, drop, get_or, drop_of_length-le}
 use lib.Seq.{drop-cons, length-take-le}
-use lib.Dec.{leb, eqb}
-use borrow.Author.Tests.{le-leb, eq-eqb, ne_eqb}
-use Rattle.recognisers.specs.Taking.{count, contains, starts_with}
+use borrow.Author.Tests.{eq-eqb, ne_eqb}
+use Rattle.recognisers.specs.Taking.{count, contains}
 
 -- ---- how many pass a test
 
@@ -46,22 +45,7 @@ module _ (k : ℕ) (s : List ℕ) (n : ℕ) (e : n ≡ min (length s) k) where
   pub count_few : (test : ℕ → Bool) (r : ℕ) → r ≡ count test (take n s) → r ≡ min (count test s) k
   count_few test r f = f ∙ (count_take test n s ∙ (let h = count_inside test s in let z : min (count test s) n ≡ min (count test s) k = omega arith in z))
 
--- whether there is one
 module _ (test : ℕ → Bool) where
-  pub none_counted : (s : List ℕ) → length s ≡ 0 → false ≡ leb 1 (count test s)
-  unfolding count
-  none_counted [] e = refl
-  none_counted (b ∷ s) e = absurd (let z : ⊥ = omega arith in z)
-
-  pub first_counted : (s : List ℕ) (r : Bool) → (length s ≡ 0 → ⊥) → r ≡ test (get_or s 0 0) → r ≡ leb 1 (count test s)
-  unfolding count
-  first_counted [] r n e = absurd (n refl)
-  first_counted (b ∷ s) r n e = e ∙ go (test b)
-    where
-      go : (t : Bool) → t ≡ leb 1 (cond t (suc (count test s)) 0)
-      go true = sym (le-leb 1 (suc (count test s)) (suc-le-suc zero-le))
-      go false = refl
-
   -- where the count stops, none passes
   pub stopped : (s : List ℕ) (n : ℕ) → n ≡ count test s → n < length s → test (get_or s n 0) ≡ false
   unfolding count
@@ -72,33 +56,6 @@ module _ (test : ℕ → Bool) where
       go true q zero e h ih = absurd (let z : ⊥ = omega arith in z)
       go true q (suc m) e h ih = ih m (suc_inj e) (le_of_suc-le-suc h)
       go false q m e h ih = rw e q
-
-module _ (test : ℕ → Bool) where
-  -- the loop stands at i
-  pub record CountAt (s : List ℕ) (i : ℕ) : Type 0 where
-    pub inside : i ≤ length s
-    pub same : count test s ≡ i + count test (drop i s)
-
-  module _ (s : List ℕ) where
-    pub count_start : CountAt s 0
-    count_start = record { inside = zero-le; same = sym (zero-add (count test s)) }
-
-    module _ (i : ℕ) (r : Bool) (at : CountAt s i) (h : i < length s) (c : r ≡ test (get_or s i 0)) where
-      pub count_more : r ≡ true → CountAt s (i + 1)
-      unfolding count
-      count_more t =
-          record {
-            inside = omega arith;
-            same = at.same ∙ rw (drop-cons s i 0 h, ← c, t, add-one) (add-suc i (count test (drop (suc i) s)) ∙ sym (suc-add i (count test (drop (suc i) s))));
-          }
-
-      pub count_stop : r ≡ false → i ≡ count test s
-      unfolding count
-      count_stop t = sym (at.same ∙ rw (drop-cons s i 0 h, ← c, t) (add-zero i))
-
-    pub count_end : (i : ℕ) → CountAt s i → length s ≤ i → i ≡ count test s
-    unfolding count
-    count_end i at h = sym (at.same ∙ rw (drop_of_length-le s h) (add-zero i))
 
 -- ---- a byte among some
 
@@ -126,14 +83,3 @@ module _ (s : List ℕ) (b : ℕ) where
     pub among_none : length s ≤ i → false ≡ contains s b
     unfolding contains
     among_none h = rw (drop_of_length-le s h) at at.same
-
--- ---- the byte at i
-
-module _ (s : List ℕ) (i b : ℕ) where
-  pub stands : i < length s → eqb (get_or s i 0) b ≡ starts_with b (drop i s)
-  unfolding starts_with
-  stands h = sym (rw (drop-cons s i 0 h))
-
-  pub stands_not : length s ≤ i → false ≡ starts_with b (drop i s)
-  unfolding starts_with
-  stands_not h = sym (rw (drop_of_length-le s h))

@@ -1,20 +1,22 @@
 -- The loops of `get_comment_token`.
 -- Assumes nothing.
-use Prim.Native.Nat.{ℕ, suc, ◌+◌, ◌≤◌, ◌<◌, zero-le}
-use native.Mathlib.Nat.{add-zero}
-use native.Mathlib.Numerals.{add-one}
+use Rattle.std.proofs.Common.{Option, Some, None}
+use Rattle.std.specs.List.{position, zip}
+use Prim.Native.Nat.{ℕ, suc, ◌+◌, ◌-◌, ◌^◌, ◌≤◌, ◌<◌, zero-le}
+use native.Mathlib.Numerals.{add-one, one-add}
 use native.Mathlib.Omega.{arith}
-use mathlib.Core.Path.{◌≡◌, sym, ap, ◌∙◌}
+use mathlib.Core.Path.{◌≡◌, refl, sym, ap, ◌∙◌}
 use mathlib.Core.List.{List, [], ◌∷◌}
-use mathlib.Core.Bool.{Bool, true, false, cond, ◌&&◌}
-use lib.ListN.{length, drop, get_or, drop_of_length-le}
-use lib.Seq.{drop-cons}
+use mathlib.Core.Bool.{Bool, true, false, cond, not, ◌&&◌, ◌||◌, and-false}
+use lib.ListN.{length, drop, take}
 use lib.Dec.{eqb}
-use borrow.Author.Tests.{eq-eqb, ne_eqb}
-use Rattle.recognisers.specs.declared.Taken.{Taken}
-use Rattle.recognisers.specs.declared.Taken.TheVariants.{Bytes, Fails}
+use borrow.Author.Tests.{eqb-true}
 use Rattle.recognisers.specs.Taking.{Taker, taken, more, starts_with}
 use Rattle.recognisers.specs.Comment.{till_line_ending, through_block_end}
+use mir.Syntax.{w64}
+use mir.Val.{Fits}
+use Rattle.characters.proofs.Rests.{part_end}
+use Rattle.recognisers.proofs.LibraryWords.{found}
 use Rattle.recognisers.proofs.Spelling.{more_zero, more_more}
 use Rattle.recognisers.proofs.TakenInside.{Inside}
 
@@ -34,55 +36,6 @@ passed_more part s i at h e =
       same = at.same ∙ ap (more i) e ∙ more_more i 1 (part (drop (suc i) s)) ∙ rw (← add-one i);
     }
 
--- ---- a line's end
-
-module _ (s : List ℕ) (i : ℕ) (at : PassedAt till_line_ending s i) (h : i < length s) where
-  pub line_feed : get_or s i 0 ≡ 10 → Bytes i ≡ till_line_ending s
-  unfolding till_line_ending
-  line_feed e = sym (at.same ∙ rw (drop-cons s i 0 h, eq-eqb (get_or s i 0) 10 e) (ap Bytes (add-zero i)))
-
-  module _ (n : get_or s i 0 ≡ 10 → ⊥) where
-    module _ (e : get_or s i 0 ≡ 13) (r : Bool) (c : r ≡ starts_with 10 (drop (i + 1) s)) where
-      pub carriage_return : r ≡ true → Bytes i ≡ till_line_ending s
-      unfolding till_line_ending
-      carriage_return t =
-          let c' : r ≡ starts_with 10 (drop (suc i) s) = rw (add-one i) at c in
-          sym (at.same ∙ rw (drop-cons s i 0 h, ne_eqb (get_or s i 0) 10 n, eq-eqb (get_or s i 0) 13 e, ← c', t) (ap Bytes (add-zero i)))
-
-      pub lone_return : r ≡ false → Fails ≡ till_line_ending s
-      unfolding till_line_ending
-      lone_return t =
-          let c' : r ≡ starts_with 10 (drop (suc i) s) = rw (add-one i) at c in
-          sym (at.same ∙ rw (drop-cons s i 0 h, ne_eqb (get_or s i 0) 10 n, eq-eqb (get_or s i 0) 13 e, ← c', t))
-
-    pub line_on : (get_or s i 0 ≡ 13 → ⊥) → PassedAt till_line_ending s (i + 1)
-    unfolding till_line_ending
-    line_on m = passed_more till_line_ending s i at h (rw (drop-cons s i 0 h, ne_eqb (get_or s i 0) 10 n, ne_eqb (get_or s i 0) 13 m))
-
-pub line_end : (s : List ℕ) (i : ℕ) → PassedAt till_line_ending s i → length s ≤ i → Bytes i ≡ till_line_ending s
-unfolding till_line_ending
-line_end s i at h = sym (at.same ∙ rw (drop_of_length-le s h) (ap Bytes (add-zero i)))
-
--- ---- a block's end
-
-module _ (s : List ℕ) (i : ℕ) (at : PassedAt through_block_end s i) (h : i < length s) where
-  module _ (r : Bool) (c : r ≡ (starts_with 42 (drop i s) && starts_with 47 (drop (i + 1) s))) where
-    pair : r ≡ (eqb (get_or s i 0) 42 && starts_with 47 (drop (suc i) s))
-    unfolding starts_with
-    pair = c ∙ rw (drop-cons s i 0 h, add-one i)
-
-    pub block_closed : r ≡ true → Bytes (i + 2) ≡ through_block_end s
-    unfolding through_block_end
-    block_closed t = sym (at.same ∙ rw (drop-cons s i 0 h, ← pair, t))
-
-    pub block_on : r ≡ false → PassedAt through_block_end s (i + 1)
-    unfolding through_block_end
-    block_on t = passed_more through_block_end s i at h (rw (drop-cons s i 0 h, ← pair, t))
-
-pub block_end : (s : List ℕ) (i : ℕ) → PassedAt through_block_end s i → length s ≤ i → Bytes i ≡ through_block_end s
-unfolding through_block_end
-block_end s i at h = sym (at.same ∙ rw (drop_of_length-le s h) (ap Bytes (add-zero i)))
-
 -- ---- what they take lies inside
 
 pub line_inside : Inside till_line_ending
@@ -90,24 +43,103 @@ unfolding till_line_ending
 line_inside [] = zero-le
 line_inside (b ∷ s) = go (eqb b 10) (eqb b 13) (starts_with 10 s) (till_line_ending s) (line_inside s)
   where
-    go : (t u v : Bool) (o : Taken) → taken o ≤ length s → taken (cond t (Bytes 0) (cond u (cond v (Bytes 0) Fails) (more 1 o))) ≤ suc (length s)
+    go : (t u v : Bool) (o : Option ℕ) → taken o ≤ length s → taken (cond t (Some 0) (cond u (cond v (Some 0) None) (more 1 o))) ≤ suc (length s)
     go true u v o h = zero-le
     go false true true o h = zero-le
     go false true false o h = zero-le
-    go false false v (Bytes n) h = omega arith
-    go false false v Fails h = zero-le
+    go false false v (Some n) h = omega arith
+    go false false v None h = zero-le
 
 pub block_inside : Inside through_block_end
 unfolding through_block_end starts_with
 block_inside [] = zero-le
 block_inside (b ∷ []) = go (eqb b 42)
   where
-    go : (t : Bool) → taken (cond (t && starts_with 47 []) (Bytes 2) (more 1 (Bytes 0))) ≤ 1
+    go : (t : Bool) → taken (cond (t && starts_with 47 []) (Some 2) (more 1 (Some 0))) ≤ 1
     go true = omega arith
     go false = omega arith
 block_inside (b ∷ d ∷ s) = go (eqb b 42 && starts_with 47 (d ∷ s)) (through_block_end (d ∷ s)) (block_inside (d ∷ s))
   where
-    go : (t : Bool) (o : Taken) → taken o ≤ suc (length s) → taken (cond t (Bytes 2) (more 1 o)) ≤ suc (suc (length s))
+    go : (t : Bool) (o : Option ℕ) → taken o ≤ suc (length s) → taken (cond t (Some 2) (more 1 o)) ≤ suc (suc (length s))
     go true o h = omega arith
-    go false (Bytes n) h = omega arith
-    go false Fails h = zero-le
+    go false (Some n) h = omega arith
+    go false None h = zero-le
+
+-- ---- a line's end
+
+abbrev pub breaks : ℕ → Bool
+breaks b = eqb b 10 || eqb b 13
+
+abbrev pub lone : List ℕ → Bool
+lone s = starts_with 13 s && not (starts_with 10 (drop 1 s))
+
+abbrev pub ending : List ℕ → Option ℕ → Option ℕ
+ending s None = Some (length s)
+ending s (Some i) = cond (lone (drop i s)) None (Some i)
+
+alone : (i : ℕ) (t : Bool) → more 1 (cond t None (Some i)) ≡ cond t None (Some (suc i))
+alone i true = refl
+alone i false = rw (one-add i)
+
+ending_on : (b : ℕ) (s : List ℕ) (o : Option ℕ) → more 1 (ending s o) ≡ ending (b ∷ s) (more 1 o)
+ending_on b s (Some i) = rw (one-add i) (alone i (lone (drop i s)))
+ending_on b s None = rw (one-add (length s))
+
+returned : (t : Bool) → cond {A = Option ℕ} t (Some 0) None ≡ cond (not t) None (Some 0)
+returned true = refl
+returned false = refl
+
+pub line_is : (s : List ℕ) → till_line_ending s ≡ ending s (position breaks s)
+unfolding till_line_ending starts_with
+line_is [] = refl
+line_is (b ∷ s) = rw (found breaks b s) (go (eqb b 10) (eqb b 13) (line_is s) refl refl)
+  where
+    go : (t u : Bool) → till_line_ending s ≡ ending s (position breaks s) → eqb b 10 ≡ t → eqb b 13 ≡ u
+        → cond t (Some 0) (cond u (cond (starts_with 10 s) (Some 0) None) (more 1 (till_line_ending s))) ≡ ending (b ∷ s) (cond (t || u) (Some 0) (more 1 (position breaks s)))
+    go true u h e f = rw (eqb-true b 10 e)
+    go false true h e f = rw f (returned (starts_with 10 s))
+    go false false h e f = rw h (ending_on b s (position breaks s))
+
+module _ (s : List ℕ) (t : Option ℕ) (e : t ≡ position breaks s) where
+  pub line_end : t ≡ None → Some (length s) ≡ till_line_ending s
+  line_end f = rw (line_is s, ← e, f)
+
+  module _ (i : ℕ) (f : t ≡ Some i) (r : Bool) (g : r ≡ lone (take (length s - i) (drop i s))) where
+    pub line_refused : r ≡ true → None ≡ till_line_ending s
+    line_refused h = let k : lone (drop i s) ≡ true = rw (part_end s i) at (sym g ∙ h) in rw (line_is s, ← e, f, k)
+
+    pub line_taken : r ≡ false → Some i ≡ till_line_ending s
+    line_taken h = let k : lone (drop i s) ≡ false = rw (part_end s i) at (sym g ∙ h) in rw (line_is s, ← e, f, k)
+
+-- ---- a block's end
+
+abbrev closes : ℕ × ℕ → Bool
+closes p = eqb p.0 42 && eqb p.1 47
+
+abbrev behind_pair : List ℕ → Option ℕ → ℕ
+behind_pair s (Some i) = i + 2
+behind_pair s None = length s
+
+block_is : (s : List ℕ) → through_block_end s ≡ Some (behind_pair s (position closes (zip s (drop 1 s))))
+unfolding through_block_end starts_with
+block_is [] = refl
+block_is (b ∷ []) = rw (and-false (eqb b 42))
+block_is (b ∷ d ∷ s) = rw (found closes (b, d) (zip (d ∷ s) s)) (go (eqb b 42 && eqb d 47) (position closes (zip (d ∷ s) s)) (block_is (d ∷ s)))
+  where
+    go : (t : Bool) (o : Option ℕ) → through_block_end (d ∷ s) ≡ Some (behind_pair (d ∷ s) o) → cond t (Some 2) (more 1 (through_block_end (d ∷ s))) ≡ Some (behind_pair (b ∷ d ∷ s) (cond t (Some 0) (more 1 o)))
+    go true o h = refl
+    go false (Some i) h = rw h (ap Some (omega arith))
+    go false None h = rw h (ap Some (one-add (suc (length s))))
+
+module _ (s : List ℕ) (t : Option ℕ) (e : t ≡ position closes (zip s (drop 1 s))) where
+  pub block_closed : (i : ℕ) → t ≡ Some i → Some (i + 2) ≡ through_block_end s
+  block_closed i f = rw (block_is s, ← e, f)
+
+  pub block_open : t ≡ None → Some (length s) ≡ through_block_end s
+  block_open f = rw (block_is s, ← e, f)
+
+  pub block_fits : (i : ℕ) → t ≡ Some i → length s < 2 ^ 64 → Fits w64 (i + 2)
+  block_fits i f h =
+      let k : taken (through_block_end s) ≤ length s = block_inside s in
+      let l : i + 2 ≤ length s = rw (← block_closed i f) at k in
+      record { fits = omega arith }

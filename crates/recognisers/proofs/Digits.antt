@@ -1,87 +1,22 @@
 -- Digits and marks, and what follows them.
 -- Assumes nothing.
-use Prim.Native.Nat.{ℕ, ◌-◌, ◌≤◌, zero-le, suc-le-suc}
+use Rattle.std.proofs.Common.{Option, Some, None}
+use Prim.Native.Nat.{ℕ}
 use native.Mathlib.Nat.{add-zero}
-use native.Mathlib.Omega.{arith}
-use mathlib.Core.Path.{◌≡◌, refl, sym, ap, ◌∙◌}
-use mathlib.Core.List.{List, [], ◌∷◌}
-use mathlib.Core.Bool.{Bool, true, false, cond, false≢true}
-use lib.ListN.{length, drop, take, get_or}
+use mathlib.Core.Path.{◌≡◌, sym, ap, ◌∙◌}
+use mathlib.Core.List.{List}
+use mathlib.Core.Bool.{cond}
+use lib.ListN.{length}
 use lib.Dec.{leb}
-use borrow.Author.Tests.{le-leb}
-use Rattle.recognisers.specs.declared.Taken.{Taken}
-use Rattle.recognisers.specs.declared.Taken.TheVariants.{Bytes, Fails}
 use Rattle.recognisers.specs.Text.{bytes}
-use Rattle.recognisers.specs.Taking.{Taker, more, or, done, one, typed, spelled, digit1, digit0, count, is_digit, at_least, contains, starts_among}
+use Rattle.recognisers.specs.Taking.{Taker, or, done, one, typed, spelled, digit1, digit0, count, is_digit, at_least, contains}
 use Rattle.recognisers.specs.Number.{decimal_number, signed_digits, exponent, scientific_notation, unsigned}
-use Rattle.recognisers.proofs.ByteLoops.{count_inside}
-use Rattle.characters.proofs.Rests.{part_end}
 use Rattle.recognisers.proofs.TakenInside.{Inside, or_inside, done_inside, one_inside, spelled_inside, digit0_inside, digit1_inside}
 
-module _ (then : Taker) (s : List ℕ) (n : ℕ) (e : n ≡ count is_digit s) where
-  pub digits_fit : n ≤ length s
-  digits_fit = rw e (count_inside is_digit s)
-
-  pub digit1_none : n ≡ 0 → Fails ≡ digit1 then s
-  unfolding digit1
-  digit1_none z = rw (← e, z)
-
-  pub digit1_then : (t q : Taken) → (n ≡ 0 → ⊥) → t ≡ then (take (length s - n) (drop n s)) → q ≡ more n t → q ≡ digit1 then s
-  unfolding digit1
-  digit1_then t q z f g = g ∙ rw (← e, le-leb 1 n (omega arith), f, part_end s n)
-
-  pub digit0_then : (t q : Taken) → t ≡ then (take (length s - n) (drop n s)) → q ≡ more n t → q ≡ digit0 then s
-  unfolding digit0
-  digit0_then t q f g = g ∙ rw (← e, f, part_end s n)
-
 module _ (s : List ℕ) (n : ℕ) (e : n ≡ count is_digit s) where
-  pub digits_alone : (q : Taken) → q ≡ at_least 1 n → q ≡ digit1 done s
+  pub digits_alone : (q : Option ℕ) → q ≡ at_least 1 n → q ≡ digit1 done s
   unfolding digit1
-  digits_alone q g = g ∙ rw (← e) (ap (λ (m : ℕ). cond (leb 1 n) (Bytes m) Fails) (sym (add-zero n)))
-
-  pub digits_or_none : (q : Taken) → q ≡ more n (Bytes 0) → q ≡ digit0 done s
-  unfolding digit0
-  digits_or_none q g = g ∙ rw (← e)
-
-module _ (then : Taker) (m s : List ℕ) (r : Bool) (e : r ≡ starts_among m s) where
-  pub marked_fits : r ≡ true → 1 ≤ length s
-  unfolding starts_among
-  marked_fits t = go s (sym e ∙ t)
-    where
-      go : (u : List ℕ) → starts_among m u ≡ true → 1 ≤ length u
-      go [] q = absurd (false≢true q)
-      go (b ∷ u) q = suc-le-suc zero-le
-
-  pub marked_then : (t q : Taken) → r ≡ true → t ≡ then (take (length s - 1) (drop 1 s)) → q ≡ more 1 t → q ≡ one (contains m) then s
-  unfolding one starts_among
-  marked_then t q y f g = go s refl
-    where
-      go : (u : List ℕ) → s ≡ u → q ≡ one (contains m) then s
-      go [] w = absurd (false≢true (rw w at (sym e ∙ y)))
-      go (b ∷ u) w =
-          let c : contains m b ≡ true = rw w at (sym e ∙ y) in
-          let f' : t ≡ then (drop 1 s) = f ∙ rw (part_end s 1) in
-          rw w (g ∙ rw (c, f', w))
-
-  pub marked_not : r ≡ false → Fails ≡ one (contains m) then s
-  unfolding one starts_among
-  marked_not y = go s refl
-    where
-      go : (u : List ℕ) → s ≡ u → Fails ≡ one (contains m) then s
-      go [] w = rw w
-      go (b ∷ u) w = let c : contains m b ≡ false = rw w at (sym e ∙ y) in rw (w, c)
-
--- ---- the start
-
-pub among_at_start : (m s : List ℕ) (r : Bool) → (length s ≡ 0 → ⊥) → r ≡ contains m (get_or s 0 0) → r ≡ starts_among m s
-unfolding starts_among
-among_at_start m [] r n e = absurd (n refl)
-among_at_start m (b ∷ s) r n e = e
-
-pub among_nothing : (m s : List ℕ) → length s ≡ 0 → false ≡ starts_among m s
-unfolding starts_among
-among_nothing m [] n = refl
-among_nothing m (b ∷ s) n = absurd (let z : ⊥ = omega arith in z)
+  digits_alone q g = g ∙ rw (← e) (ap (λ (m : ℕ). cond (leb 1 n) (Some m) None) (sym (add-zero n)))
 
 -- ---- inside
 

@@ -1,5 +1,6 @@
 -- How many quotes are escaped: the loop that counts them, how many there can be, and that the token's value alone tells it.
 -- Assumes nothing.
+use Rattle.std.proofs.Common.{Option, Some, None}
 use Prim.Native.Nat.{ℕ, suc, ◌+◌, ◌-◌, ◌*◌, ◌^◌, ◌≤◌, ◌<◌, zero-le}
 use native.Mathlib.Nat.{add-zero, zero-add}
 use native.Mathlib.Numerals.{add-one, add-two}
@@ -14,24 +15,21 @@ use borrow.Author.Tests.{eq-eqb, ne_eqb}
 use mir.Syntax.{w64}
 use mir.Val.{Fits}
 use Rattle.characters.proofs.Rests.{part_end}
-use Rattle.recognisers.specs.declared.Taken.{Taken}
-use Rattle.recognisers.specs.declared.Taken.TheVariants.{Bytes, Fails}
 use Rattle.recognisers.specs.declared.Dialect.{Dialect}
-use Rattle.recognisers.specs.declared.Key.TheVariants.{None}
 use Rattle.recognisers.specs.declared.TokenKind.TheVariants.{String}
-use Rattle.recognisers.specs.declared.Recognised.TheVariants.{Token, Nothing}
 use Rattle.recognisers.specs.Text.{bytes}
-use Rattle.recognisers.specs.Pieces.{quote_piece}
+use Rattle.recognisers.specs.Pieces.{piece}
 use Rattle.recognisers.specs.Taking.{taken, more, one, typed, spelled, contains, starts_with, starts_among}
+use Rattle.recognisers.specs.declared.Piece.{Piece}
 use Rattle.recognisers.specs.Strings.{take_till_escaping, closed_by, pairs_passed, pairs_behind, pairs_in, string_taken, string_pairs, get_string_token, placeholder_string_pairs}
 use Rattle.recognisers.specs.Placeholder.{string_named_pairs}
 use Rattle.recognisers.proofs.Spelling.{not_fails}
 use Rattle.recognisers.proofs.ClosingQuote.{starts_some}
 
 -- where one byte more makes m, what holds behind each number that it can be made of holds of m
-one_more : (m : ℕ) (o : Taken) → more 1 o ≡ Bytes m → (P : ℕ → Type 0) → ((n : ℕ) → o ≡ Bytes n → P (suc n)) → P m
-one_more m (Bytes n) e P f = let z : 1 + n ≡ m = ap taken e in let y : m ≡ suc n = omega (arith, z) in rw y (f n refl)
-one_more m Fails e P f = not_fails m e
+one_more : (m : ℕ) (o : Option ℕ) → more 1 o ≡ Some m → (P : ℕ → Type 0) → ((n : ℕ) → o ≡ Some n → P (suc n)) → P m
+one_more m (Some n) e P f = let z : 1 + n ≡ m = ap taken e in let y : m ≡ suc n = omega (arith, z) in rw y (f n refl)
+one_more m None e P f = not_fails m e
 
 module _ (d : ℕ) (esc : List ℕ) where
   abbrev passed : List ℕ → ℕ
@@ -121,7 +119,7 @@ module _ (d : ℕ) (esc : List ℕ) where
   starts_taken k [] = refl
   starts_taken k (b ∷ s) = refl
 
-  walk_tells : (behind : Bool) (s : List ℕ) (m : ℕ) → take_till_escaping d esc behind s ≡ Bytes m → pairs_passed d esc behind (take (suc m) s) ≡ pairs_passed d esc behind s
+  walk_tells : (behind : Bool) (s : List ℕ) (m : ℕ) → take_till_escaping d esc behind s ≡ Some m → pairs_passed d esc behind (take (suc m) s) ≡ pairs_passed d esc behind s
   unfolding take_till_escaping pairs_passed
   walk_tells behind [] m e = refl
   walk_tells true (b ∷ s) m e =
@@ -130,8 +128,8 @@ module _ (d : ℕ) (esc : List ℕ) where
       go (contains esc b && starts_with d s) (eqb b d) refl refl e (walk_tells (contains esc b && starts_with d s) s)
     where
       go : (p q : Bool) → (contains esc b && starts_with d s) ≡ p → eqb b d ≡ q
-          → cond (not p && q) (Bytes 0) (more 1 (take_till_escaping d esc p s)) ≡ Bytes m
-          → ((n : ℕ) → take_till_escaping d esc p s ≡ Bytes n → pairs_passed d esc p (take (suc n) s) ≡ pairs_passed d esc p s)
+          → cond (not p && q) (Some 0) (more 1 (take_till_escaping d esc p s)) ≡ Some m
+          → ((n : ℕ) → take_till_escaping d esc p s ≡ Some n → pairs_passed d esc p (take (suc n) s) ≡ pairs_passed d esc p s)
           → pairs_passed d esc false (take (suc m) (b ∷ s)) ≡ cond (not p && q) 0 (pairs_passed d esc p s)
       go false true f g h tells =
           let z : 0 ≡ m = ap taken h in
@@ -147,15 +145,15 @@ module _ (d : ℕ) (esc : List ℕ) where
           one_more m (take_till_escaping d esc false s) h (λ k. pairs_passed d esc false (take (suc k) (b ∷ s)) ≡ pairs_passed d esc false s)
           (λ n i. rw (starts_taken n s, f, g) (tells n i))
 
-  pub value_tells : (opener s : List ℕ) (n : ℕ) → spelled typed opener (closed_by d esc) s ≡ Bytes n → pairs_behind (length opener) d esc (take n s) ≡ pairs_behind (length opener) d esc s
+  pub value_tells : (opener s : List ℕ) (n : ℕ) → spelled typed opener (closed_by d esc) s ≡ Some n → pairs_behind (length opener) d esc (take n s) ≡ pairs_behind (length opener) d esc s
   unfolding spelled one closed_by
   value_tells [] s n e =
       one_more n (take_till_escaping d esc false s) e (λ k. passed (take k s) ≡ passed s) (λ m f. walk_tells false s m f)
   value_tells (w ∷ word) [] n e = not_fails n e
   value_tells (w ∷ word) (b ∷ s) n e = go (eqb (typed b) w) e (value_tells word s)
     where
-      go : (t : Bool) → cond t (more 1 (spelled typed word (closed_by d esc) s)) Fails ≡ Bytes n
-          → ((m : ℕ) → spelled typed word (closed_by d esc) s ≡ Bytes m → pairs_behind (length word) d esc (take m s) ≡ pairs_behind (length word) d esc s)
+      go : (t : Bool) → cond t (more 1 (spelled typed word (closed_by d esc) s)) None ≡ Some n
+          → ((m : ℕ) → spelled typed word (closed_by d esc) s ≡ Some m → pairs_behind (length word) d esc (take m s) ≡ pairs_behind (length word) d esc s)
           → pairs_behind (suc (length word)) d esc (take n (b ∷ s)) ≡ pairs_behind (length word) d esc s
       go true f tells =
           one_more n (spelled typed word (closed_by d esc) s) f (λ k. pairs_behind (suc (length word)) d esc (take k (b ∷ s)) ≡ pairs_behind (length word) d esc s) tells
@@ -226,11 +224,11 @@ few_named v = omega (arith, few_in (bytes "\\") (bytes "\\") (bytes "N") (drop 1
 
 -- ---- a String token
 
-module _ (dialect : Dialect) (s : List ℕ) (t : Taken) (e : t ≡ string_taken dialect s) where
-  pub string_token : (n q : ℕ) → t ≡ Bytes n → q ≡ string_pairs (take n s) → Token (quote_piece String n None q) ≡ get_string_token dialect s
+module _ (dialect : Dialect) (s : List ℕ) (t : Option ℕ) (e : t ≡ string_taken dialect s) where
+  pub string_token : (n q : ℕ) (p : Piece) → t ≡ Some n → q ≡ string_pairs (take n s) → p ≡ piece String n None → Some (record { kind = p.kind; len = p.len; alias = p.alias; key = p.key; escaped = q }) ≡ get_string_token dialect s
   unfolding get_string_token
-  string_token n q f g = rw (← e, f, g)
+  string_token n q p f g h = rw (← e, f, g, h)
 
-  pub string_nothing : t ≡ Fails → Nothing ≡ get_string_token dialect s
+  pub string_nothing : (r : Option Piece) → t ≡ None → r ≡ None → r ≡ get_string_token dialect s
   unfolding get_string_token
-  string_nothing f = rw (← e, f)
+  string_nothing r f g = g ∙ rw (← e, f)

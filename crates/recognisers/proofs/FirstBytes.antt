@@ -1,5 +1,6 @@
 -- With which first bytes a recogniser can succeed, and which of its forms is left behind one of them.
 -- Assumes nothing.
+use Rattle.std.proofs.Common.{Option, Some, None}
 use Prim.Native.Nat.{ℕ, ◌+◌, ◌-◌, ◌≤◌, ◌<◌}
 use native.Mathlib.Omega.{arith}
 use mathlib.Core.Path.{◌≡◌, refl, sym, ap, ◌∙◌}
@@ -17,13 +18,10 @@ use Rattle.characters.proofs.Below.{all_below, below}
 use Rattle.characters.proofs.RunLaws.{ascii_first}
 use Rattle.characters.proofs.WhiteStarts.{white_none, white_two, white_three, white_four}
 use Rattle.characters.proofs.Within.{within_low, within_high}
+use Rattle.recognisers.specs.declared.Piece.{Piece}
 use Rattle.recognisers.specs.declared.Dialect.{Dialect}
 use Rattle.recognisers.specs.declared.Dialect.TheVariants.{Generic, PostgreSql, SQLServer}
-use Rattle.recognisers.specs.declared.Taken.{Taken}
-use Rattle.recognisers.specs.declared.Taken.TheVariants.{Bytes, Fails}
-use Rattle.recognisers.specs.declared.TokenKind.TheVariants.{LineComment, BlockComment, OpenParen, CloseParen, Number}
-use Rattle.recognisers.specs.declared.Recognised.{Recognised}
-use Rattle.recognisers.specs.declared.Recognised.TheVariants.{Token, Nothing}
+use Rattle.recognisers.specs.declared.TokenKind.TheVariants.{LineComment, BlockComment, OpenParen, CloseParen}
 use Rattle.recognisers.specs.Text.{bytes}
 use Rattle.recognisers.specs.Taking.{Taker, more, or, done, one, spelled, typed, capital, literal, caseless, blanks, end_of_word, is_digit, count, digit1, contains, starts_with, starts_among}
 use Rattle.recognisers.specs.Pieces.{token_of, alt}
@@ -37,13 +35,13 @@ use Rattle.recognisers.specs.Placeholder.{indexed_taken, get_indexed_placeholder
 
 -- ---- a choice whose other part fails
 
-pub or_fails : (t : Taken) → t ≡ or t Fails
-or_fails (Bytes n) = refl
-or_fails Fails = refl
+pub or_fails : (t : Option ℕ) → t ≡ or t None
+or_fails (Some n) = refl
+or_fails None = refl
 
-pub alt_nothing : (r : Recognised) → r ≡ alt r Nothing
-alt_nothing (Token p) = refl
-alt_nothing Nothing = refl
+pub alt_nothing : (r : Option Piece) → r ≡ alt r None
+alt_nothing (Some p) = refl
+alt_nothing None = refl
 
 -- ---- a byte that is not among some
 
@@ -77,7 +75,7 @@ pub stands_first : (s : List ℕ) (k : ℕ) (p t : Bool) → p ≡ starts_with k
 stands_first s k p t e q = sym e ∙ q
 
 -- an opener of one byte
-pub opened : (k : ℕ) (then : Taker) (s : List ℕ) (r : Taken) → starts_with k s ≡ true → r ≡ more 1 (then (drop 1 s)) → r ≡ literal (k ∷ []) then s
+pub opened : (k : ℕ) (then : Taker) (s : List ℕ) (r : Option ℕ) → starts_with k s ≡ true → r ≡ more 1 (then (drop 1 s)) → r ≡ literal (k ∷ []) then s
 unfolding starts_with spelled one typed
 opened k then [] r e f = absurd (false≢true e)
 opened k then (b ∷ s) r e f = f ∙ rw e
@@ -126,46 +124,46 @@ module _ (b : ℕ) (s : List ℕ) (n : contains white_starts b ≡ false) where
       go true q = ascii_no (ltb-true b 128 q)
       go false q = wide_no (ltb-false b 128 q)
 
-no_whitespace_cons : (b : ℕ) (s : List ℕ) → contains white_starts b ≡ false → Nothing ≡ get_whitespace_token (b ∷ s)
+no_whitespace_cons : (b : ℕ) (s : List ℕ) → contains white_starts b ≡ false → None ≡ get_whitespace_token (b ∷ s)
 unfolding get_whitespace_token run
 no_whitespace_cons b s n = rw (no_white b s n)
 
 -- ---- comments
 
-no_comment_cons : (b : ℕ) (s : List ℕ) → contains (bytes "#-/") b ≡ false → Nothing ≡ get_comment_token (b ∷ s)
+no_comment_cons : (b : ℕ) (s : List ℕ) → contains (bytes "#-/") b ≡ false → None ≡ get_comment_token (b ∷ s)
 unfolding get_comment_token spelled one typed contains
 no_comment_cons b s n = rw (none_of (bytes "#-/") b n 35 refl, none_of (bytes "#-/") b n 45 refl, none_of (bytes "#-/") b n 47 refl)
 
 -- ---- type specifiers
 
-no_specifier_cons : (allowed : Bool) (b : ℕ) (s : List ℕ) → contains (bytes ":[") b ≡ false → Nothing ≡ get_type_specifier_token allowed (b ∷ s)
+no_specifier_cons : (allowed : Bool) (b : ℕ) (s : List ℕ) → contains (bytes ":[") b ≡ false → None ≡ get_type_specifier_token allowed (b ∷ s)
 unfolding get_type_specifier_token spelled one typed contains
 no_specifier_cons true b s n = rw (none_of (bytes ":[") b n 58 refl, none_of (bytes ":[") b n 91 refl)
 no_specifier_cons false b s n = refl
 
 -- ---- strings
 
-no_string_cons : (dialect : Dialect) (b : ℕ) (s : List ℕ) → contains (bytes "'\"`[NExX") b ≡ false → Nothing ≡ get_string_token dialect (b ∷ s)
+no_string_cons : (dialect : Dialect) (b : ℕ) (s : List ℕ) → contains (bytes "'\"`[NExX") b ≡ false → None ≡ get_string_token dialect (b ∷ s)
 unfolding get_string_token string_taken quoted_taken hex_taken spelled one typed contains
 no_string_cons dialect b s n = go dialect
   where
     no : (k : ℕ) → contains (bytes "'\"`[NExX") k ≡ true → eqb b k ≡ false
     no = none_of (bytes "'\"`[NExX") b n
 
-    go : (d : Dialect) → Nothing ≡ get_string_token d (b ∷ s)
+    go : (d : Dialect) → None ≡ get_string_token d (b ∷ s)
     go Generic = rw (no 96 refl, no 34 refl, no 39 refl, no 78 refl, no 69 refl, no 120 refl, no 88 refl)
     go PostgreSql = rw (no 96 refl, no 34 refl, no 39 refl, no 78 refl, no 69 refl, no 120 refl, no 88 refl)
     go SQLServer = rw (no 96 refl, no 91 refl, no 34 refl, no 39 refl, no 78 refl, no 69 refl, no 120 refl, no 88 refl)
 
 -- ---- parens
 
-no_open_cons : (dialect : Dialect) (b : ℕ) (s : List ℕ) → contains (bytes "([Cc") b ≡ false → Nothing ≡ get_open_paren_token dialect (b ∷ s)
+no_open_cons : (dialect : Dialect) (b : ℕ) (s : List ℕ) → contains (bytes "([Cc") b ≡ false → None ≡ get_open_paren_token dialect (b ∷ s)
 unfolding get_open_paren_token spelled one typed contains
 no_open_cons Generic b s n = rw (none_of (bytes "([Cc") b n 40 refl, no_capital (bytes "([Cc") b n 67 refl refl)
 no_open_cons PostgreSql b s n = rw (none_of (bytes "([Cc") b n 40 refl, none_of (bytes "([Cc") b n 91 refl, no_capital (bytes "([Cc") b n 67 refl refl)
 no_open_cons SQLServer b s n = rw (none_of (bytes "([Cc") b n 40 refl, no_capital (bytes "([Cc") b n 67 refl refl)
 
-no_close_cons : (dialect : Dialect) (b : ℕ) (s : List ℕ) → contains (bytes ")]Ee") b ≡ false → Nothing ≡ get_close_paren_token dialect (b ∷ s)
+no_close_cons : (dialect : Dialect) (b : ℕ) (s : List ℕ) → contains (bytes ")]Ee") b ≡ false → None ≡ get_close_paren_token dialect (b ∷ s)
 unfolding get_close_paren_token spelled one typed contains
 no_close_cons Generic b s n = rw (none_of (bytes ")]Ee") b n 41 refl, no_capital (bytes ")]Ee") b n 69 refl refl)
 no_close_cons PostgreSql b s n = rw (none_of (bytes ")]Ee") b n 41 refl, none_of (bytes ")]Ee") b n 93 refl, no_capital (bytes ")]Ee") b n 69 refl refl)
@@ -173,14 +171,14 @@ no_close_cons SQLServer b s n = rw (none_of (bytes ")]Ee") b n 41 refl, no_capit
 
 -- ---- placeholders
 
-no_placeholder_cons : (named : Bool) (dialect : Dialect) (b : ℕ) (s : List ℕ) → contains (bytes "?@:${") b ≡ false → Nothing ≡ get_placeholder_token named dialect (b ∷ s)
+no_placeholder_cons : (named : Bool) (dialect : Dialect) (b : ℕ) (s : List ℕ) → contains (bytes "?@:${") b ≡ false → None ≡ get_placeholder_token named dialect (b ∷ s)
 unfolding get_placeholder_token get_ident_named_placeholder_token get_string_named_placeholder_token get_indexed_placeholder_token get_braced_named_placeholder_token indexed_taken ident_taken string_named_taken braced_taken spelled one typed contains
 no_placeholder_cons named dialect b s n = go named
   where
     no : (k : ℕ) → contains (bytes "?@:${") k ≡ true → eqb b k ≡ false
     no = none_of (bytes "?@:${") b n
 
-    go : (t : Bool) → Nothing ≡ get_placeholder_token t dialect (b ∷ s)
+    go : (t : Bool) → None ≡ get_placeholder_token t dialect (b ∷ s)
     go true = rw (no 63 refl, no 64 refl, no 58 refl, no 36 refl, no 123 refl)
     go false = rw (no 63 refl, no 64 refl, no 58 refl, no 36 refl, no 123 refl)
 
@@ -207,11 +205,11 @@ no_digit b n = go (is_digit b) refl
     go false q = refl
 
 -- no number without a digit
-no_digit_left : (s : List ℕ) → leb 1 (count is_digit s) ≡ false → Fails ≡ unsigned s
+no_digit_left : (s : List ℕ) → leb 1 (count is_digit s) ≡ false → None ≡ unsigned s
 unfolding unsigned scientific_notation decimal_number digit1
 no_digit_left s n = rw n
 
-no_number_cons : (b : ℕ) (s : List ℕ) → contains (bytes "-0123456789") b ≡ false → Nothing ≡ get_number_token (b ∷ s)
+no_number_cons : (b : ℕ) (s : List ℕ) → contains (bytes "-0123456789") b ≡ false → None ≡ get_number_token (b ∷ s)
 unfolding get_number_token spelled one typed contains count
 no_number_cons b s n = rw (none_of (bytes "-0123456789") b n 45 refl, ← no_digit_left (b ∷ s) (rw (no_digit b n)))
 
@@ -231,16 +229,6 @@ block_left : (s : List ℕ) → starts_with 35 s ≡ false → starts_with 45 s 
 unfolding starts_with get_comment_token spelled one typed
 block_left [] e f = refl
 block_left (b ∷ s) e f = rw (e, f)
-
-negative_left : (s : List ℕ) → starts_with 45 s ≡ true → token_of Number (literal (bytes "-") unsigned s) ≡ get_number_token s
-unfolding starts_with get_number_token count within
-negative_left [] e = absurd (false≢true e)
-negative_left (b ∷ s) e = rw (eqb-true b 45 e, ← no_digit_left (45 ∷ s) refl) (ap (token_of Number) (or_fails (literal (bytes "-") unsigned (45 ∷ s))))
-
-unsigned_left : (s : List ℕ) → starts_with 45 s ≡ false → token_of Number (unsigned s) ≡ get_number_token s
-unfolding starts_with get_number_token spelled one typed
-unsigned_left [] e = refl
-unsigned_left (b ∷ s) e = rw e
 
 open_square_left : (dialect : Dialect) (s : List ℕ) → starts_with 91 s ≡ true → token_of OpenParen (in_postgre_sql dialect (literal (bytes "[") done) s) ≡ get_open_paren_token dialect s
 unfolding starts_with get_open_paren_token spelled one typed capital within
@@ -274,52 +262,49 @@ close_left PostgreSql (b ∷ s) e = rw e
 -- ---- as the recognisers use them, where the first byte is not among those that may stand there
 
 module _ (p : Bool) (n : p ≡ false) where
-  pub no_unsigned : (s : List ℕ) → p ≡ leb 1 (count is_digit s) → Fails ≡ unsigned s
-  no_unsigned s e = no_digit_left s (sym e ∙ n)
-
-  pub no_whitespace : (s : List ℕ) → p ≡ starts_among white_starts s → Nothing ≡ get_whitespace_token s
+  pub no_whitespace : (s : List ℕ) → p ≡ starts_among white_starts s → None ≡ get_whitespace_token s
   unfolding starts_among get_whitespace_token run
   no_whitespace [] e = refl
   no_whitespace (b ∷ s) e = no_whitespace_cons b s (sym e ∙ n)
 
-  pub no_comment : (s : List ℕ) → p ≡ starts_among (bytes "#-/") s → Nothing ≡ get_comment_token s
+  pub no_comment : (s : List ℕ) → p ≡ starts_among (bytes "#-/") s → None ≡ get_comment_token s
   unfolding starts_among get_comment_token spelled one
   no_comment [] e = refl
   no_comment (b ∷ s) e = no_comment_cons b s (sym e ∙ n)
 
-  pub no_specifier : (allowed : Bool) (s : List ℕ) → p ≡ starts_among (bytes ":[") s → Nothing ≡ get_type_specifier_token allowed s
+  pub no_specifier : (allowed : Bool) (s : List ℕ) → p ≡ starts_among (bytes ":[") s → None ≡ get_type_specifier_token allowed s
   unfolding starts_among get_type_specifier_token spelled one
   no_specifier true [] e = refl
   no_specifier false [] e = refl
   no_specifier allowed (b ∷ s) e = no_specifier_cons allowed b s (sym e ∙ n)
 
-  pub no_string : (dialect : Dialect) (s : List ℕ) → p ≡ starts_among (bytes "'\"`[NExX") s → Nothing ≡ get_string_token dialect s
+  pub no_string : (dialect : Dialect) (s : List ℕ) → p ≡ starts_among (bytes "'\"`[NExX") s → None ≡ get_string_token dialect s
   unfolding starts_among get_string_token string_taken quoted_taken hex_taken spelled one
   no_string Generic [] e = refl
   no_string PostgreSql [] e = refl
   no_string SQLServer [] e = refl
   no_string dialect (b ∷ s) e = no_string_cons dialect b s (sym e ∙ n)
 
-  pub no_open : (dialect : Dialect) (s : List ℕ) → p ≡ starts_among (bytes "([Cc") s → Nothing ≡ get_open_paren_token dialect s
+  pub no_open : (dialect : Dialect) (s : List ℕ) → p ≡ starts_among (bytes "([Cc") s → None ≡ get_open_paren_token dialect s
   unfolding starts_among get_open_paren_token spelled one
   no_open Generic [] e = refl
   no_open PostgreSql [] e = refl
   no_open SQLServer [] e = refl
   no_open dialect (b ∷ s) e = no_open_cons dialect b s (sym e ∙ n)
 
-  pub no_close : (dialect : Dialect) (s : List ℕ) → p ≡ starts_among (bytes ")]Ee") s → Nothing ≡ get_close_paren_token dialect s
+  pub no_close : (dialect : Dialect) (s : List ℕ) → p ≡ starts_among (bytes ")]Ee") s → None ≡ get_close_paren_token dialect s
   unfolding starts_among get_close_paren_token spelled one
   no_close Generic [] e = refl
   no_close PostgreSql [] e = refl
   no_close SQLServer [] e = refl
   no_close dialect (b ∷ s) e = no_close_cons dialect b s (sym e ∙ n)
 
-  pub no_number : (s : List ℕ) → p ≡ starts_among (bytes "-0123456789") s → Nothing ≡ get_number_token s
+  pub no_number : (s : List ℕ) → p ≡ starts_among (bytes "-0123456789") s → None ≡ get_number_token s
   unfolding starts_among get_number_token unsigned scientific_notation decimal_number digit1 count spelled one
   no_number [] e = refl
   no_number (b ∷ s) e = no_number_cons b s (sym e ∙ n)
 
-  pub no_placeholder : (named : Bool) (dialect : Dialect) (s : List ℕ) → p ≡ starts_among (bytes "?@:${") s → Nothing ≡ get_placeholder_token named dialect s
+  pub no_placeholder : (named : Bool) (dialect : Dialect) (s : List ℕ) → p ≡ starts_among (bytes "?@:${") s → None ≡ get_placeholder_token named dialect s
   unfolding starts_among get_placeholder_token get_ident_named_placeholder_token get_string_named_placeholder_token get_indexed_placeholder_token get_braced_named_placeholder_token indexed_taken ident_taken string_named_taken braced_taken spelled one
   no_placeholder true dialect [] e = refl
   no_placeholder false dialect [] e = refl
@@ -327,7 +312,7 @@ module _ (p : Bool) (n : p ≡ false) where
 
 -- ---- as they use them by the first byte: r is made of what was taken
 
-module _ (p : Bool) (t : Taken) (r : Recognised) (s : List ℕ) where
+module _ (p : Bool) (t : Option ℕ) (r : Option Piece) (s : List ℕ) where
   pub hash_comment : p ≡ starts_with 35 (drop 0 s) → p ≡ true → t ≡ literal (bytes "#") till_line_ending s → r ≡ token_of LineComment t → r ≡ get_comment_token s
   hash_comment e q f g = g ∙ (ap (token_of LineComment) f ∙ hash_left s (sym e ∙ q))
 
@@ -337,22 +322,15 @@ module _ (p : Bool) (t : Taken) (r : Recognised) (s : List ℕ) where
   pub block_comment_is : p ≡ starts_with 35 (drop 0 s) → p ≡ false → (o : Bool) → o ≡ starts_with 45 (drop 0 s) → o ≡ false → t ≡ literal (bytes "/*") through_block_end s → r ≡ token_of BlockComment t → r ≡ get_comment_token s
   block_comment_is e q o e₂ q₂ f g = g ∙ (ap (token_of BlockComment) f ∙ block_left s (sym e ∙ q) (sym e₂ ∙ q₂))
 
-  pub negative_is : p ≡ starts_with 45 (drop 0 s) → p ≡ true → t ≡ literal (bytes "-") unsigned s → r ≡ token_of Number t → r ≡ get_number_token s
-  negative_is e q f g = g ∙ (ap (token_of Number) f ∙ negative_left s (sym e ∙ q))
-
-  pub unsigned_is : p ≡ starts_with 45 (drop 0 s) → p ≡ false → t ≡ unsigned s → r ≡ token_of Number t → r ≡ get_number_token s
-  unsigned_is e q f g = g ∙ (ap (token_of Number) f ∙ unsigned_left s (sym e ∙ q))
-
   module _ (dialect : Dialect) where
     pub open_square : p ≡ starts_with 91 (drop 0 s) → p ≡ true → t ≡ in_postgre_sql dialect (literal (bytes "[") done) s → r ≡ token_of OpenParen t → r ≡ get_open_paren_token dialect s
     open_square e q f g = g ∙ (ap (token_of OpenParen) f ∙ open_square_left dialect s (sym e ∙ q))
 
-    pub open_other : p ≡ starts_with 91 (drop 0 s) → p ≡ false → (round word : Taken) → round ≡ literal (bytes "(") done s → word ≡ caseless (bytes "CASE") end_of_word s → t ≡ or round word → r ≡ token_of OpenParen t → r ≡ get_open_paren_token dialect s
-    open_other e q round word h i f g = rw (g, f, h, i) (open_left dialect s (sym e ∙ q))
+    pub open_other : p ≡ starts_with 91 (drop 0 s) → p ≡ false → t ≡ or (literal (bytes "(") done s) (caseless (bytes "CASE") end_of_word s) → r ≡ token_of OpenParen t → r ≡ get_open_paren_token dialect s
+    open_other e q f g = rw (g, f) (open_left dialect s (sym e ∙ q))
 
     pub close_square : p ≡ starts_with 93 (drop 0 s) → p ≡ true → t ≡ in_postgre_sql dialect (literal (bytes "]") done) s → r ≡ token_of CloseParen t → r ≡ get_close_paren_token dialect s
     close_square e q f g = g ∙ (ap (token_of CloseParen) f ∙ close_square_left dialect s (sym e ∙ q))
 
-    pub close_other : p ≡ starts_with 93 (drop 0 s) → p ≡ false → (end_case end words round : Taken) → end_case ≡ caseless (bytes "END") (blanks (caseless (bytes "CASE") end_of_word)) s → end ≡ caseless (bytes "END") end_of_word s → words ≡ or end_case end
-        → round ≡ literal (bytes ")") done s → t ≡ or round words → r ≡ token_of CloseParen t → r ≡ get_close_paren_token dialect s
-    close_other e q end_case end words round h i j k f g = rw (g, f, k, j, h, i) (close_left dialect s (sym e ∙ q))
+    pub close_other : p ≡ starts_with 93 (drop 0 s) → p ≡ false → t ≡ or (literal (bytes ")") done s) (or (caseless (bytes "END") (blanks (caseless (bytes "CASE") end_of_word)) s) (caseless (bytes "END") end_of_word s)) → r ≡ token_of CloseParen t → r ≡ get_close_paren_token dialect s
+    close_other e q f g = rw (g, f) (close_left dialect s (sym e ∙ q))

@@ -1,4 +1,6 @@
 -- Laws that the proofs cite.
+pub mod LibraryWords
+pub mod Preceded
 pub mod ByteLoops
 pub mod OrderedChoice
 pub mod FirstBytes
@@ -6,16 +8,17 @@ pub mod PlaceholderOrder
 pub mod WordRuns
 pub mod Halves
 pub mod Spelling
-pub mod SameBytes
 pub mod TakenInside
 pub mod MatchedAnswers
 pub mod CommentLoops
 pub mod ClosingQuote
 pub mod EscapedQuotes
 pub mod Unclosed
+pub mod KnownOnce
 pub mod StringOpeners
 pub mod Blanks
 pub mod Digits
+pub mod Unsigned
 pub mod PlaceholderLaws
 pub mod NationalKey
 pub mod EscapedExamples

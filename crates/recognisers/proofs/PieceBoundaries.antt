@@ -1,5 +1,6 @@
 -- What any recogniser takes from a well-formed text ends where a character ends.
 -- Assumes nothing.
+use Rattle.std.proofs.Common.{Option, Some, None}
 use Prim.Native.Nat.{ℕ, zero, suc, ◌-◌, ◌≤◌, ◌<◌, min, zero-le, suc-le-suc}
 use native.Mathlib.Nat.{le_refl, le_of_suc-le-suc, not-suc-le-zero, min-le_left}
 use native.Mathlib.Omega.{arith}
@@ -17,16 +18,13 @@ use Rattle.characters.specs.Runs.{run}
 use Rattle.characters.specs.Utf8.{well_formed}
 use Rattle.characters.proofs.Within.{within_high}
 use Rattle.characters.proofs.WellFormedSteps.{well_formed_step}
+use Rattle.recognisers.specs.declared.Piece.{Piece}
 use Rattle.recognisers.specs.declared.Dialect.{Dialect}
 use Rattle.recognisers.specs.declared.Dialect.TheVariants.{Generic, PostgreSql, SQLServer}
 use Rattle.recognisers.specs.declared.Key.{Key}
 use Rattle.recognisers.specs.declared.Key.TheVariants.{Named}
-use Rattle.recognisers.specs.declared.Taken.{Taken}
-use Rattle.recognisers.specs.declared.Taken.TheVariants.{Bytes, Fails}
 use Rattle.recognisers.specs.declared.TokenKind.{TokenKind}
 use Rattle.recognisers.specs.declared.TokenKind.TheVariants as K
-use Rattle.recognisers.specs.declared.Recognised.{Recognised}
-use Rattle.recognisers.specs.declared.Recognised.TheVariants.{Token, Nothing}
 use Rattle.recognisers.specs.Text.{byte, bytes}
 use Rattle.recognisers.specs.Taking.{Taker, more, or, done, one, spelled, typed, capital, blanks, end_of_word, digit0, digit1, count, is_digit, at_least, contains, starts_with}
 use Rattle.recognisers.specs.Pieces.{token_of, quote_token, alt}
@@ -41,30 +39,30 @@ use Rattle.characters.proofs.WellFormedCuts.{Stop, at_end_lem, before, behind, s
 
 -- ---- what a taker leaves
 
-abbrev pub Left : List ℕ → Taken → Type 0
-Left s (Bytes n) = well_formed (drop n s) ≡ true
-Left s Fails = Unit {0}
+abbrev pub Left : List ℕ → Option ℕ → Type 0
+Left s (Some n) = well_formed (drop n s) ≡ true
+Left s None = Unit {0}
 
-pub record Leaves (s : List ℕ) (t : Taken) : Type 0 where
+pub record Leaves (s : List ℕ) (t : Option ℕ) : Type 0 where
   pub left : Left s t
 
-pub fails_leaves : (s : List ℕ) → Leaves s Fails
+pub fails_leaves : (s : List ℕ) → Leaves s None
 fails_leaves s = record { left = tt }
 
 abbrev pub Cuts : Taker → Type 0
 Cuts part = (s : List ℕ) → well_formed s ≡ true → Leaves s (part s)
 
-pub or_leaves : (s : List ℕ) (a b : Taken) → Leaves s a → Leaves s b → Leaves s (or a b)
-or_leaves s (Bytes n) b h l = h
-or_leaves s Fails b h l = l
+pub or_leaves : (s : List ℕ) (a b : Option ℕ) → Leaves s a → Leaves s b → Leaves s (or a b)
+or_leaves s (Some n) b h l = h
+or_leaves s None b h l = l
 
-pub cond_leaves : (s : List ℕ) (t : Bool) (a : Taken) → Leaves s a → Leaves s (cond t a Fails)
+pub cond_leaves : (s : List ℕ) (t : Bool) (a : Option ℕ) → Leaves s a → Leaves s (cond t a None)
 cond_leaves s true a h = h
 cond_leaves s false a h = fails_leaves s
 
-pub more_leaves : (n : ℕ) (s : List ℕ) (t : Taken) → Leaves (drop n s) t → Leaves s (more n t)
-more_leaves n s (Bytes m) h = record { left = rw (← drop-drop m n s) h.left }
-more_leaves n s Fails h = fails_leaves s
+pub more_leaves : (n : ℕ) (s : List ℕ) (t : Option ℕ) → Leaves (drop n s) t → Leaves s (more n t)
+more_leaves n s (Some m) h = record { left = rw (← drop-drop m n s) h.left }
+more_leaves n s None h = fails_leaves s
 
 -- only ASCII bytes pass the test
 abbrev Plain : (ℕ → Bool) → Type 0
@@ -75,7 +73,7 @@ unfolding one
 one_cuts test a then h [] w = fails_leaves []
 one_cuts test a then h (b ∷ s) w = go (test b) refl
   where
-    go : (t : Bool) → test b ≡ t → Leaves (b ∷ s) (cond t (more 1 (then s)) Fails)
+    go : (t : Bool) → test b ≡ t → Leaves (b ∷ s) (cond t (more 1 (then s)) None)
     go true e = more_leaves 1 (b ∷ s) (then s) (h s (ascii_next b s (a b e) w))
     go false e = fails_leaves (b ∷ s)
 
@@ -114,7 +112,7 @@ pub end_of_word_cuts : Cuts end_of_word
 unfolding end_of_word
 end_of_word_cuts s w = go (is_word_character (code_point s))
   where
-    go : (t : Bool) → Leaves s (cond t Fails (Bytes 0))
+    go : (t : Bool) → Leaves s (cond t None (Some 0))
     go true = fails_leaves s
     go false = record { left = w }
 
@@ -162,17 +160,17 @@ digit1_cuts then h s w = cond_leaves s (leb 1 (count is_digit s)) (more (count i
 
 -- ---- scans
 
-abbrev Stops : List ℕ → Taken → Type 0
-Stops s (Bytes n) = Stop s n
-Stops s Fails = Unit {0}
+abbrev Stops : List ℕ → Option ℕ → Type 0
+Stops s (Some n) = Stop s n
+Stops s None = Unit {0}
 
-stops_leave : (s : List ℕ) (t : Taken) → Stops s t → well_formed s ≡ true → Leaves s t
-stops_leave s (Bytes n) h w = record { left = stop_cut s n h w }
-stops_leave s Fails h w = fails_leaves s
+stops_leave : (s : List ℕ) (t : Option ℕ) → Stops s t → well_formed s ≡ true → Leaves s t
+stops_leave s (Some n) h w = record { left = stop_cut s n h w }
+stops_leave s None h w = fails_leaves s
 
-later : (b : ℕ) (s : List ℕ) (t : Taken) → Stops s t → Stops (b ∷ s) (more 1 t)
-later b s (Bytes n) h = stop_later b s n h
-later b s Fails h = tt
+later : (b : ℕ) (s : List ℕ) (t : Option ℕ) → Stops s t → Stops (b ∷ s) (more 1 t)
+later b s (Some n) h = stop_later b s n h
+later b s None h = tt
 
 -- a byte that is this ASCII one
 is_ascii : (b c : ℕ) → c < 0x80 → eqb b c ≡ true → b < 0x80
@@ -183,7 +181,7 @@ unfolding till_line_ending
 line_stops [] = at_end_lem refl
 line_stops (b ∷ s) = go (eqb b 10) (eqb b 13) (starts_with 10 s) refl refl (line_stops s)
   where
-    go : (t u v : Bool) → eqb b 10 ≡ t → eqb b 13 ≡ u → Stops s (till_line_ending s) → Stops (b ∷ s) (cond t (Bytes 0) (cond u (cond v (Bytes 0) Fails) (more 1 (till_line_ending s))))
+    go : (t u v : Bool) → eqb b 10 ≡ t → eqb b 13 ≡ u → Stops s (till_line_ending s) → Stops (b ∷ s) (cond t (Some 0) (cond u (cond v (Some 0) None) (more 1 (till_line_ending s))))
     go true u v e f h = before (suc-le-suc zero-le) (is_ascii b 10 (omega arith) e)
     go false true true e f h = before (suc-le-suc zero-le) (is_ascii b 13 (omega arith) f)
     go false true false e f h = tt
@@ -194,11 +192,11 @@ unfolding through_block_end starts_with
 block_stops [] = at_end_lem refl
 block_stops (b ∷ s) = go (eqb b 42) (starts_with 47 s) refl (block_stops s)
   where
-    slash : (r : List ℕ) → starts_with 47 r ≡ true → Stops (b ∷ r) (Bytes 2)
+    slash : (r : List ℕ) → starts_with 47 r ≡ true → Stops (b ∷ r) (Some 2)
     slash [] e = absurd (false≢true e)
     slash (c ∷ r) e = behind 1 refl (suc-le-suc (suc-le-suc zero-le)) (is_ascii c 47 (omega arith) e)
 
-    go : (t u : Bool) → starts_with 47 s ≡ u → Stops s (through_block_end s) → Stops (b ∷ s) (cond (t && u) (Bytes 2) (more 1 (through_block_end s)))
+    go : (t u : Bool) → starts_with 47 s ≡ u → Stops s (through_block_end s) → Stops (b ∷ s) (cond (t && u) (Some 2) (more 1 (through_block_end s)))
     go true true e h = slash s e
     go true false e h = later b s (through_block_end s) h
     go false u e h = later b s (through_block_end s) h
@@ -211,7 +209,7 @@ closed_stops d l escapes false (b ∷ s) =
     go (not (contains escapes b && starts_with d s)) (eqb b d) refl (closed_stops d l escapes (contains escapes b && starts_with d s) s)
   where
     go : (t u : Bool) → eqb b d ≡ u → Stops s (more 1 (take_till_escaping d escapes (contains escapes b && starts_with d s) s))
-        → Stops (b ∷ s) (more 1 (cond (t && u) (Bytes 0) (more 1 (take_till_escaping d escapes (contains escapes b && starts_with d s) s))))
+        → Stops (b ∷ s) (more 1 (cond (t && u) (Some 0) (more 1 (take_till_escaping d escapes (contains escapes b && starts_with d s) s))))
     go true true e h = behind 0 refl (suc-le-suc zero-le) (is_ascii b d l e)
     go true false e h = later b s (more 1 (take_till_escaping d escapes (contains escapes b && starts_with d s) s)) h
     go false u e h = later b s (more 1 (take_till_escaping d escapes (contains escapes b && starts_with d s) s)) h
@@ -221,7 +219,7 @@ unfolding through_brace
 brace_stops [] = tt
 brace_stops (b ∷ s) = go (eqb b 125) refl (brace_stops s)
   where
-    go : (t : Bool) → eqb b 125 ≡ t → Stops s (through_brace s) → Stops (b ∷ s) (cond t (Bytes 1) (more 1 (through_brace s)))
+    go : (t : Bool) → eqb b 125 ≡ t → Stops s (through_brace s) → Stops (b ∷ s) (cond t (Some 1) (more 1 (through_brace s)))
     go true e h = behind 0 refl (suc-le-suc zero-le) (is_ascii b 125 (omega arith) e)
     go false e h = later b s (through_brace s) h
 
@@ -239,34 +237,34 @@ braced_cuts : Cuts braced_text
 unfolding braced_text
 braced_cuts s w = go (starts_with 125 s)
   where
-    go : (t : Bool) → Leaves s (cond t Fails (through_brace s))
+    go : (t : Bool) → Leaves s (cond t None (through_brace s))
     go true = fails_leaves s
     go false = stops_leave s (through_brace s) (brace_stops s) w
 
 -- ---- what a recogniser leaves
 
-abbrev pub Bounded : List ℕ → Recognised → Type 0
-Bounded s (Token p) = well_formed (drop p.len s) ≡ true
-Bounded s Nothing = Unit {0}
+abbrev pub Bounded : List ℕ → Option Piece → Type 0
+Bounded s (Some p) = well_formed (drop p.len s) ≡ true
+Bounded s None = Unit {0}
 
-pub alt_bounded : (s : List ℕ) (a b : Recognised) → Bounded s a → Bounded s b → Bounded s (alt a b)
-alt_bounded s (Token p) b h l = h
-alt_bounded s Nothing b h l = l
+pub alt_bounded : (s : List ℕ) (a b : Option Piece) → Bounded s a → Bounded s b → Bounded s (alt a b)
+alt_bounded s (Some p) b h l = h
+alt_bounded s None b h l = l
 
-quote_bounded : (s : List ℕ) (kind : TokenKind) (key : ℕ → Key) (escaped : ℕ → ℕ) (t : Taken) → Leaves s t → Bounded s (quote_token kind key escaped t)
-quote_bounded s kind key escaped (Bytes n) h = h.left
-quote_bounded s kind key escaped Fails h = tt
+quote_bounded : (s : List ℕ) (kind : TokenKind) (key : ℕ → Option Key) (escaped : ℕ → ℕ) (t : Option ℕ) → Leaves s t → Bounded s (quote_token kind key escaped t)
+quote_bounded s kind key escaped (Some n) h = h.left
+quote_bounded s kind key escaped None h = tt
 
-pub token_bounded : (s : List ℕ) (kind : TokenKind) (t : Taken) → Leaves s t → Bounded s (token_of kind t)
-token_bounded s kind (Bytes n) h = h.left
-token_bounded s kind Fails h = tt
+pub token_bounded : (s : List ℕ) (kind : TokenKind) (t : Option ℕ) → Leaves s t → Bounded s (token_of kind t)
+token_bounded s kind (Some n) h = h.left
+token_bounded s kind None h = tt
 
-keyed_bounded : (s : List ℕ) (key : ℕ → Key) (t : Taken) → Leaves s t → Bounded s (keyed key t)
-keyed_bounded s key (Bytes n) h = h.left
-keyed_bounded s key Fails h = tt
+keyed_bounded : (s : List ℕ) (key : ℕ → Option Key) (t : Option ℕ) → Leaves s t → Bounded s (keyed key t)
+keyed_bounded s key (Some n) h = h.left
+keyed_bounded s key None h = tt
 
 at_least_leaves : (s : List ℕ) (k n : ℕ) → well_formed (drop n s) ≡ true → Leaves s (at_least k n)
-at_least_leaves s k n h = cond_leaves s (leb k n) (Bytes n) (record { left = h })
+at_least_leaves s k n h = cond_leaves s (leb k n) (Some n) (record { left = h })
 
 module _ (s : List ℕ) (w : well_formed s ≡ true) where
   pub whitespace_bounded : Bounded s (get_whitespace_token s)
@@ -293,7 +291,7 @@ module _ (s : List ℕ) (w : well_formed s ≡ true) where
   unfolding get_any_other_char
   other_bounded = token_bounded s K.Operator _ (go (starts_with 10 s || starts_with 13 s))
     where
-      go : (t : Bool) → Leaves s (cond t Fails (at_least 1 (character_length s)))
+      go : (t : Bool) → Leaves s (cond t None (at_least 1 (character_length s)))
       go true = fails_leaves s
       go false = at_least_leaves s 1 (character_length s) (character_left s w)
 
@@ -430,7 +428,7 @@ module _ (s : List ℕ) (w : well_formed s ≡ true) where
 
   ident_bounded : Bounded s (get_ident_named_placeholder_token s)
   unfolding get_ident_named_placeholder_token ident_taken
-  ident_bounded = keyed_bounded s (λ n. Named 1 (n - 1)) _ (one_cuts (contains (bytes "@:$")) (contains_plain (bytes "@:$") refl) placeholder_name name_cuts s w)
+  ident_bounded = keyed_bounded s (λ n. Some (Named 1 (n - 1))) _ (one_cuts (contains (bytes "@:$")) (contains_plain (bytes "@:$") refl) placeholder_name name_cuts s w)
 
   string_named_bounded : (dialect : Dialect) → Bounded s (get_string_named_placeholder_token dialect s)
   unfolding get_string_named_placeholder_token string_named_taken
@@ -439,9 +437,9 @@ module _ (s : List ℕ) (w : well_formed s ≡ true) where
 
   braced_bounded : Bounded s (get_braced_named_placeholder_token s)
   unfolding get_braced_named_placeholder_token braced_taken
-  braced_bounded = keyed_bounded s (λ n. Named 1 (n - 2)) _ (literal_leaves s w (bytes "{") refl braced_text braced_cuts)
+  braced_bounded = keyed_bounded s (λ n. Some (Named 1 (n - 2))) _ (literal_leaves s w (bytes "{") refl braced_text braced_cuts)
 
-  four_bounded : (a b c d : Recognised) → Bounded s a → Bounded s b → Bounded s c → Bounded s d → Bounded s (alt a (alt b (alt c d)))
+  four_bounded : (a b c d : Option Piece) → Bounded s a → Bounded s b → Bounded s c → Bounded s d → Bounded s (alt a (alt b (alt c d)))
   four_bounded a b c d h i j k = alt_bounded s a (alt b (alt c d)) h (alt_bounded s b (alt c d) i (alt_bounded s c d j k))
 
   pub placeholder_bounded : (named : Bool) (dialect : Dialect) → Bounded s (get_placeholder_token named dialect s)

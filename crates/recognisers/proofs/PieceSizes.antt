@@ -1,6 +1,7 @@
 -- Every token is at least one byte, lies inside the rest, has its alias and its key's text inside it, and two bytes at least for each
 -- escaped quote.
 -- Assumes nothing.
+use Rattle.std.proofs.Common.{Option, Some, None}
 use Prim.Native.Nat.{ℕ, zero, suc, ◌+◌, ◌-◌, ◌*◌, ◌^◌, ◌≤◌, ◌<◌, min, zero-le}
 use native.Mathlib.Nat.{le_refl, le_trans, min-le_left}
 use native.Mathlib.Omega.{arith}
@@ -16,19 +17,13 @@ use Rattle.characters.specs.Classes.{is_whitespace, is_word_character}
 use Rattle.characters.specs.Runs.{in_class, run}
 use Rattle.characters.specs.declared.Class.TheVariants as C
 use Rattle.characters.proofs.RunLaws.{run_inside, character_inside}
-use Rattle.recognisers.specs.declared.Taken.{Taken}
-use Rattle.recognisers.specs.declared.Taken.TheVariants.{Bytes, Fails}
 use Rattle.recognisers.specs.declared.TokenKind.{TokenKind}
 use Rattle.recognisers.specs.declared.TokenKind.TheVariants as K
 use Rattle.recognisers.specs.declared.Dialect.{Dialect}
 use Rattle.recognisers.specs.declared.Dialect.TheVariants.{Generic, PostgreSql, SQLServer}
 use Rattle.recognisers.specs.declared.Key.{Key}
-use Rattle.recognisers.specs.declared.Key.TheVariants.{None, Named, Escaped, ZeroIndexed, OneIndexed}
-use Rattle.recognisers.specs.declared.Number.{Number}
-use Rattle.recognisers.specs.declared.Number.TheVariants.{Is, Overflows}
+use Rattle.recognisers.specs.declared.Key.TheVariants.{Named, Escaped, ZeroIndexed, OneIndexed}
 use Rattle.recognisers.specs.declared.Piece.{Piece}
-use Rattle.recognisers.specs.declared.Recognised.{Recognised}
-use Rattle.recognisers.specs.declared.Recognised.TheVariants.{Token, Nothing}
 use Rattle.recognisers.specs.Text.{byte, bytes}
 use Rattle.recognisers.specs.Taking.{Taker, taken, more, or, done, one, spelled, typed, capital, blanks, end_of_word, digit0, digit1, count, is_digit, at_least, contains, starts_with}
 use Rattle.recognisers.specs.Pieces.{token_of, quote_token, alt}
@@ -51,29 +46,29 @@ use Rattle.recognisers.proofs.PlaceholderLaws.{name_inside, placeholder_string_i
 
 -- ---- what a taker takes: so many bytes at least
 
-abbrev pub Least : ℕ → Taken → Type 0
-Least k (Bytes n) = k ≤ n
-Least k Fails = Unit {0}
+abbrev pub Least : ℕ → Option ℕ → Type 0
+Least k (Some n) = k ≤ n
+Least k None = Unit {0}
 
-least_any : (t : Taken) → Least 0 t
-least_any (Bytes n) = zero-le
-least_any Fails = tt
+least_any : (t : Option ℕ) → Least 0 t
+least_any (Some n) = zero-le
+least_any None = tt
 
-pub or_least : (k : ℕ) (a b : Taken) → Least k a → Least k b → Least k (or a b)
-or_least k (Bytes n) b h l = h
-or_least k Fails b h l = l
+pub or_least : (k : ℕ) (a b : Option ℕ) → Least k a → Least k b → Least k (or a b)
+or_least k (Some n) b h l = h
+or_least k None b h l = l
 
-pub cond_least : (k : ℕ) (t : Bool) (a : Taken) → Least k a → Least k (cond t a Fails)
+pub cond_least : (k : ℕ) (t : Bool) (a : Option ℕ) → Least k a → Least k (cond t a None)
 cond_least k true a h = h
 cond_least k false a h = tt
 
-pub more_least : (m k : ℕ) (t : Taken) → k ≤ m → Least k (more m t)
-more_least m k (Bytes n) h = omega arith
-more_least m k Fails h = tt
+pub more_least : (m k : ℕ) (t : Option ℕ) → k ≤ m → Least k (more m t)
+more_least m k (Some n) h = omega arith
+more_least m k None h = tt
 
-one_more_least : (k : ℕ) (t : Taken) → Least k t → Least (suc k) (more 1 t)
-one_more_least k (Bytes n) h = omega arith
-one_more_least k Fails h = tt
+one_more_least : (k : ℕ) (t : Option ℕ) → Least k t → Least (suc k) (more 1 t)
+one_more_least k (Some n) h = omega arith
+one_more_least k None h = tt
 
 pub one_least : (k : ℕ) (test : ℕ → Bool) (then : Taker) → ((s : List ℕ) → Least k (then s)) → (s : List ℕ) → Least (suc k) (one test then s)
 unfolding one
@@ -91,7 +86,7 @@ spelled_some form w word then s = one_some (λ b. eqb (form b) w) (spelled form 
 at_least_lem : (k n : ℕ) → Least k (at_least k n)
 at_least_lem k n = go (leb k n) refl
   where
-    go : (t : Bool) → leb k n ≡ t → Least k (cond t (Bytes n) Fails)
+    go : (t : Bool) → leb k n ≡ t → Least k (cond t (Some n) None)
     go true e = leb-true k n e
     go false e = tt
 
@@ -99,7 +94,7 @@ digit1_some : (then : Taker) (s : List ℕ) → Least 1 (digit1 then s)
 unfolding digit1
 digit1_some then s = go (leb 1 (count is_digit s)) refl
   where
-    go : (t : Bool) → leb 1 (count is_digit s) ≡ t → Least 1 (cond t (more (count is_digit s) (then (drop (count is_digit s) s))) Fails)
+    go : (t : Bool) → leb 1 (count is_digit s) ≡ t → Least 1 (cond t (more (count is_digit s) (then (drop (count is_digit s) s))) None)
     go true e = more_least (count is_digit s) 1 (then (drop (count is_digit s) s)) (leb-true 1 (count is_digit s) e)
     go false e = tt
 
@@ -107,19 +102,19 @@ digit1_some then s = go (leb 1 (count is_digit s)) refl
 
 -- a key's text lies inside a token of n bytes, with the closing quote behind it where escapes are to be undone; a number
 -- fits 64 bits
-abbrev pub KeyFits : ℕ → Key → Type 0
+abbrev pub KeyFits : ℕ → Option Key → Type 0
 KeyFits n None = Unit {0}
-KeyFits n (Named start len) = start + len ≤ n
-KeyFits n (Escaped start len) = start + len < n
-KeyFits n (ZeroIndexed i) = i < 2 ^ 64
-KeyFits n (OneIndexed i) = i < 2 ^ 64
+KeyFits n (Some (Named start len)) = start + len ≤ n
+KeyFits n (Some (Escaped start len)) = start + len < n
+KeyFits n (Some (ZeroIndexed i)) = i < 2 ^ 64
+KeyFits n (Some (OneIndexed i)) = i < 2 ^ 64
 
-pub key_start_lem : (n : ℕ) (key : Key) → KeyFits n key → key_start key ≤ n
+pub key_start_lem : (n : ℕ) (key : Option Key) → KeyFits n key → key_start key ≤ n
 key_start_lem n None h = zero-le
-key_start_lem n (Named start len) h = omega arith
-key_start_lem n (Escaped start len) h = omega arith
-key_start_lem n (ZeroIndexed i) h = zero-le
-key_start_lem n (OneIndexed i) h = zero-le
+key_start_lem n (Some (Named start len)) h = omega arith
+key_start_lem n (Some (Escaped start len)) h = omega arith
+key_start_lem n (Some (ZeroIndexed i)) h = zero-le
+key_start_lem n (Some (OneIndexed i)) h = zero-le
 
 pub record Sound (s : List ℕ) (p : Piece) : Type 0 where
   pub some : 1 ≤ p.len
@@ -128,39 +123,39 @@ pub record Sound (s : List ℕ) (p : Piece) : Type 0 where
   pub key_inside : KeyFits p.len p.key
   pub escaped_inside : p.escaped * 2 ≤ p.len
 
-abbrev pub Sized : List ℕ → Recognised → Type 0
-Sized s (Token p) = Sound s p
-Sized s Nothing = Unit {0}
+abbrev pub Sized : List ℕ → Option Piece → Type 0
+Sized s (Some p) = Sound s p
+Sized s None = Unit {0}
 
-pub alt_sized : (s : List ℕ) (a b : Recognised) → Sized s a → Sized s b → Sized s (alt a b)
-alt_sized s (Token p) b h l = h
-alt_sized s Nothing b h l = l
+pub alt_sized : (s : List ℕ) (a b : Option Piece) → Sized s a → Sized s b → Sized s (alt a b)
+alt_sized s (Some p) b h l = h
+alt_sized s None b h l = l
 
-pub token_sized : (s : List ℕ) (kind : TokenKind) (t : Taken) → Least 1 t → taken t ≤ length s → Sized s (token_of kind t)
-token_sized s kind (Bytes n) h l = record { some = h; inside = l; alias_inside = le_refl n; key_inside = tt; escaped_inside = zero-le }
-token_sized s kind Fails h l = tt
+pub token_sized : (s : List ℕ) (kind : TokenKind) (t : Option ℕ) → Least 1 t → taken t ≤ length s → Sized s (token_of kind t)
+token_sized s kind (Some n) h l = record { some = h; inside = l; alias_inside = le_refl n; key_inside = tt; escaped_inside = zero-le }
+token_sized s kind None h l = tt
 
-keyed_sized : (s : List ℕ) (key : ℕ → Key) (least : ℕ) (t : Taken) → ((n : ℕ) → least ≤ n → KeyFits n (key n)) → Least 1 t → Least least t → taken t ≤ length s → Sized s (keyed key t)
-keyed_sized s key least (Bytes n) k h m l = record { some = h; inside = l; alias_inside = le_refl n; key_inside = k n m; escaped_inside = zero-le }
-keyed_sized s key least Fails k h m l = tt
+keyed_sized : (s : List ℕ) (key : ℕ → Option Key) (least : ℕ) (t : Option ℕ) → ((n : ℕ) → least ≤ n → KeyFits n (key n)) → Least 1 t → Least least t → taken t ≤ length s → Sized s (keyed key t)
+keyed_sized s key least (Some n) k h m l = record { some = h; inside = l; alias_inside = le_refl n; key_inside = k n m; escaped_inside = zero-le }
+keyed_sized s key least None k h m l = tt
 
 -- the same of a token with escaped quotes, where its value tells how many
-quote_sized : (s : List ℕ) (kind : TokenKind) (key : ℕ → Key) (pairs : List ℕ → ℕ) → ((v : List ℕ) → pairs v * 2 ≤ length v) → (least : ℕ) (t : Taken)
+quote_sized : (s : List ℕ) (kind : TokenKind) (key : ℕ → Option Key) (pairs : List ℕ → ℕ) → ((v : List ℕ) → pairs v * 2 ≤ length v) → (least : ℕ) (t : Option ℕ)
     → ((n : ℕ) → least ≤ n → KeyFits n (key n)) → Least 1 t → Least least t → taken t ≤ length s → Sized s (quote_token kind key (λ n. pairs (take n s)) t)
-quote_sized s kind key pairs f least (Bytes n) k h m l =
+quote_sized s kind key pairs f least (Some n) k h m l =
     let e = length-take-le n s l in
     record { some = h; inside = l; alias_inside = le_refl n; key_inside = k n m; escaped_inside = omega (arith, e, f (take n s)) }
-quote_sized s kind key pairs f least Fails k h m l = tt
+quote_sized s kind key pairs f least None k h m l = tt
 
 -- ---- each recogniser
 
 -- so many bytes, where there are that many at least
 run_sized : (kind : TokenKind) (k n : ℕ) (s : List ℕ) → 1 ≤ k → n ≤ length s → Sized s (token_of kind (at_least k n))
-run_sized kind k n s h l = token_sized s kind (at_least k n) (weaker (at_least k n) (at_least_lem k n)) (cond_inside (leb k n) (Bytes n) (length s) l)
+run_sized kind k n s h l = token_sized s kind (at_least k n) (weaker (at_least k n) (at_least_lem k n)) (cond_inside (leb k n) (Some n) (length s) l)
   where
-    weaker : (t : Taken) → Least k t → Least 1 t
-    weaker (Bytes m) q = le_trans h q
-    weaker Fails q = tt
+    weaker : (t : Option ℕ) → Least k t → Least 1 t
+    weaker (Some m) q = le_trans h q
+    weaker None q = tt
 
 pub whitespace_sized : (s : List ℕ) → Sized s (get_whitespace_token s)
 unfolding get_whitespace_token in_class
@@ -179,7 +174,7 @@ pub other_sized : (s : List ℕ) → Sized s (get_any_other_char s)
 unfolding get_any_other_char
 other_sized s = go (starts_with (byte "\n") s || starts_with (byte "\r") s)
   where
-    go : (t : Bool) → Sized s (token_of K.Operator (cond t Fails (at_least 1 (character_length s))))
+    go : (t : Bool) → Sized s (token_of K.Operator (cond t None (at_least 1 (character_length s))))
     go true = tt
     go false = run_sized K.Operator 1 (character_length s) s (le_refl 1) (character_inside s)
 
@@ -208,20 +203,20 @@ type_specifier_sized false s = tt
 -- ---- strings
 
 -- what takes bytes, and none that are not there
-pub record Takes (k : ℕ) (s : List ℕ) (t : Taken) : Type 0 where
+pub record Takes (k : ℕ) (s : List ℕ) (t : Option ℕ) : Type 0 where
   pub least : Least k t
   pub inside : taken t ≤ length s
 
-pub or_takes : (k : ℕ) (s : List ℕ) (a b : Taken) → Takes k s a → Takes k s b → Takes k s (or a b)
+pub or_takes : (k : ℕ) (s : List ℕ) (a b : Option ℕ) → Takes k s a → Takes k s b → Takes k s (or a b)
 or_takes k s a b h l = record { least = or_least k a b h.least l.least; inside = or_inside a b (length s) h.inside l.inside }
 
 pub spelled_takes : (form : ℕ → ℕ) (w : ℕ) (word : List ℕ) (then : Taker) → Inside then → (s : List ℕ) → Takes 1 s (spelled form (w ∷ word) then s)
 spelled_takes form w word then h s = record { least = spelled_some form w word then s; inside = spelled_inside form (w ∷ word) then h s }
 
-pub fails_takes : (k : ℕ) (s : List ℕ) → Takes k s Fails
+pub fails_takes : (k : ℕ) (s : List ℕ) → Takes k s None
 fails_takes k s = record { least = tt; inside = zero-le }
 
-pub takes_sized : (s : List ℕ) (kind : TokenKind) (t : Taken) → Takes 1 s t → Sized s (token_of kind t)
+pub takes_sized : (s : List ℕ) (kind : TokenKind) (t : Option ℕ) → Takes 1 s t → Sized s (token_of kind t)
 takes_sized s kind t h = token_sized s kind t h.least h.inside
 
 -- a quote, and the text up to its closing one
@@ -250,7 +245,7 @@ unfolding string_taken
 string_takes dialect s =
     or_takes 1 s _ _ (quote (byte "`") [] (byte "`") (bytes "`") s) (or_takes 1 s _ _ (in_sql_server_lem dialect s) (quoted_takes s))
 
-pub string_fits : (dialect : Dialect) (s : List ℕ) (t : Taken) (n : ℕ) → t ≡ string_taken dialect s → t ≡ Bytes n → n ≤ length s
+pub string_fits : (dialect : Dialect) (s : List ℕ) (t : Option ℕ) (n : ℕ) → t ≡ string_taken dialect s → t ≡ Some n → n ≤ length s
 string_fits dialect s t n e f = rw (← e, f) at (string_takes dialect s).inside
 
 pub string_sized : (dialect : Dialect) (s : List ℕ) → Sized s (get_string_token dialect s)
@@ -307,41 +302,41 @@ number_sized s =
 mark_takes : (test : ℕ → Bool) (then : Taker) → Inside then → (s : List ℕ) → Takes 1 s (one test then s)
 mark_takes test then h s = record { least = one_some test then s; inside = one_inside test then h s }
 
-number_fits : (n i : ℕ) → cond (ltb n (2 ^ 64)) (Is n) Overflows ≡ Is i → i < 2 ^ 64
+number_fits : (n i : ℕ) → cond (ltb n (2 ^ 64)) (Some n) None ≡ Some i → i < 2 ^ 64
 number_fits n i e = go (ltb n (2 ^ 64)) refl
   where
     go : (t : Bool) → ltb n (2 ^ 64) ≡ t → i < 2 ^ 64
-    go true q = let m : ◌≡◌ {A = Number} (Is n) (Is i) = rw q at e in let j : n ≡ i = cc in rw (← j) (ltb-true n (2 ^ 64) q)
-    go false q = let m : ◌≡◌ {A = Number} Overflows (Is i) = rw q at e in let z : ◌≡◌ {A = ℕ} 0 1 = cc in absurd (let y : ⊥ = omega arith in y)
+    go true q = let m : ◌≡◌ {A = Option ℕ} (Some n) (Some i) = rw q at e in let j : n ≡ i = cc in rw (← j) (ltb-true n (2 ^ 64) q)
+    go false q = let m : ◌≡◌ {A = Option ℕ} None (Some i) = rw q at e in let z : ◌≡◌ {A = ℕ} 0 1 = cc in absurd (let y : ⊥ = omega arith in y)
 
 indexed_key_lem : (s : List ℕ) (n : ℕ) → 0 ≤ n → KeyFits n (indexed_key s n)
 unfolding indexed_key
 indexed_key_lem s n h = go (leb n 1) (starts_with (byte "$") s) (number_of (take (n - 1) (drop 1 s))) refl
   where
-    go : (t f : Bool) (m : Number) → number_of (take (n - 1) (drop 1 s)) ≡ m → KeyFits n (cond t None (indexed f m))
+    go : (t f : Bool) (m : Option ℕ) → number_of (take (n - 1) (drop 1 s)) ≡ m → KeyFits n (cond t None (indexed f m))
     go true f m e = tt
-    go false true (Is i) e = number_fits (number_from 0 (take (n - 1) (drop 1 s))) i e
-    go false false (Is i) e = number_fits (number_from 0 (take (n - 1) (drop 1 s))) i e
-    go false f Overflows e = tt
+    go false true (Some i) e = number_fits (number_from 0 (take (n - 1) (drop 1 s))) i e
+    go false false (Some i) e = number_fits (number_from 0 (take (n - 1) (drop 1 s))) i e
+    go false f None e = tt
 
 pub indexed_sized : (s : List ℕ) → Sized s (get_indexed_placeholder_token s)
 unfolding get_indexed_placeholder_token indexed_taken
 indexed_sized s = go _ (or_takes 1 s _ _ (mark_takes (contains (bytes "?$")) (digit1 done) digits_inside s) (spelled_takes typed (byte "?") [] done done_inside s))
   where
-    go : (t : Taken) → Takes 1 s t → Sized s (keyed (indexed_key s) t)
+    go : (t : Option ℕ) → Takes 1 s t → Sized s (keyed (indexed_key s) t)
     go t h = keyed_sized s (indexed_key s) 0 t (indexed_key_lem s) h.least (least_any t) h.inside
 
 pub ident_sized : (s : List ℕ) → Sized s (get_ident_named_placeholder_token s)
 unfolding get_ident_named_placeholder_token ident_taken
 ident_sized s =
     let h = mark_takes (contains (bytes "@:$")) placeholder_name name_inside s in
-    keyed_sized s (λ n. Named 1 (n - 1)) 1 (one (contains (bytes "@:$")) placeholder_name s) (λ n k. omega arith) h.least h.least h.inside
+    keyed_sized s (λ n. Some (Named 1 (n - 1))) 1 (one (contains (bytes "@:$")) placeholder_name s) (λ n k. omega arith) h.least h.least h.inside
 
 pub braced_sized : (s : List ℕ) → Sized s (get_braced_named_placeholder_token s)
 unfolding get_braced_named_placeholder_token braced_taken
 braced_sized s =
     let h = spelled_takes typed (byte "{") [] braced_text braced_inside s in
-    keyed_sized s (λ n. Named 1 (n - 2)) 1 (spelled typed (bytes "{") braced_text s) (λ n k. omega arith) h.least h.least h.inside
+    keyed_sized s (λ n. Some (Named 1 (n - 2))) 1 (spelled typed (bytes "{") braced_text s) (λ n k. omega arith) h.least h.least h.inside
 
 placeholder_string_some : (dialect : Dialect) (s : List ℕ) → Least 1 (placeholder_string_taken dialect s)
 unfolding placeholder_string_taken placeholder_quoted_taken
@@ -361,7 +356,7 @@ string_key_lem : (s : List ℕ) (n : ℕ) → 2 ≤ n → KeyFits n (string_key 
 unfolding string_key
 string_key_lem s n h = go (has_escape (get_or s (n - 1) 0) (take (n - 3) (drop 2 s))) refl
   where
-    go : (t : Bool) → has_escape (get_or s (n - 1) 0) (take (n - 3) (drop 2 s)) ≡ t → KeyFits n (cond t (Escaped 2 (n - 3)) (Named 2 (n - 3)))
+    go : (t : Bool) → has_escape (get_or s (n - 1) 0) (take (n - 3) (drop 2 s)) ≡ t → KeyFits n (cond t (Some (Escaped 2 (n - 3))) (Some (Named 2 (n - 3))))
     go true e = let k = escape_some (get_or s (n - 1) 0) (n - 3) (drop 2 s) e in omega arith
     go false e = omega arith
 
@@ -371,7 +366,7 @@ string_named_sized dialect s =
     let h = mark_takes (contains (bytes "@:")) (placeholder_string_taken dialect) (placeholder_string_inside dialect) s in
     quote_sized s K.Placeholder (string_key s) string_named_pairs few_named 2 (one (contains (bytes "@:")) (placeholder_string_taken dialect) s) (string_key_lem s) h.least (one_least 1 (contains (bytes "@:")) (placeholder_string_taken dialect) (placeholder_string_some dialect) s) h.inside
 
-module _ (s : List ℕ) (a b c d : Recognised) where
+module _ (s : List ℕ) (a b c d : Option Piece) where
   four_sized : Sized s a → Sized s b → Sized s c → Sized s d → Sized s (alt a (alt b (alt c d)))
   four_sized h i j k = alt_sized s a (alt b (alt c d)) h (alt_sized s b (alt c d) i (alt_sized s c d j k))
 

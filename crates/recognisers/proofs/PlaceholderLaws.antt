@@ -1,38 +1,37 @@
 -- Placeholders: their numbers, names and escapes.
 -- Assumes nothing.
-use Prim.Native.Nat.{ℕ, suc, ◌+◌, ◌-◌, ◌*◌, ◌/◌, ◌^◌, ◌≤◌, ◌<◌, zero-le}
+use Rattle.std.proofs.Common.{Option, Some, None}
+use Rattle.std.specs.Option.{option_map}
+use Rattle.std.specs.List.{position, list_any, zip}
+use Prim.Native.Nat.{ℕ, suc, ◌+◌, ◌-◌, ◌*◌, ◌^◌, ◌≤◌, ◌<◌, zero-le}
 use native.Mathlib.Nat.{le_refl, le_trans, le_of_eq}
 use native.Mathlib.Numerals.{add-one}
 use native.Mathlib.Omega.{arith}
 use mathlib.Core.Path.{◌≡◌, refl, sym, ap, ◌∙◌}
 use mathlib.Core.List.{List, [], ◌∷◌}
-use mathlib.Core.Bool.{Bool, true, false, cond, ◌&&◌}
+use mathlib.Core.Bool.{and-false, ◌||◌, Bool, true, false, cond, ◌&&◌}
 use lib.ListN.{length, drop, take, get_or, drop_of_length-le}
 use lib.Seq.{drop-cons}
 use lib.Dec.{leb, eqb}
-use borrow.Author.Tests.{lt-ltb, le-ltb, le-leb, lt-leb, eq-eqb, ne_eqb}
+use borrow.Author.Tests.{lt-ltb, le-ltb, le-leb, lt-leb}
 use Rattle.characters.specs.Runs.{in_class, run}
 use Rattle.characters.specs.Classes.{is_placeholder_name_character}
 use Rattle.characters.specs.declared.Class.TheVariants.{PlaceholderName}
 use Rattle.characters.proofs.RunLaws.{run_inside}
 use Rattle.recognisers.specs.declared.Dialect.{Dialect}
 use Rattle.recognisers.specs.declared.Dialect.TheVariants.{Generic, PostgreSql, SQLServer}
-use Rattle.recognisers.specs.declared.Taken.{Taken}
-use Rattle.recognisers.specs.declared.Taken.TheVariants.{Bytes, Fails}
 use Rattle.recognisers.specs.declared.Key.{Key}
-use Rattle.recognisers.specs.declared.Key.TheVariants.{None, Named, Escaped, ZeroIndexed, OneIndexed}
-use Rattle.recognisers.specs.declared.Number.{Number}
-use Rattle.recognisers.specs.declared.Number.TheVariants.{Is, Overflows}
+use Rattle.recognisers.specs.declared.Piece.{Piece}
+use Rattle.recognisers.specs.declared.Key.TheVariants.{Named, Escaped, ZeroIndexed, OneIndexed}
 use Rattle.recognisers.specs.declared.TokenKind.TheVariants.{Placeholder}
-use Rattle.recognisers.specs.declared.Recognised.TheVariants.{Token, Nothing}
 use Rattle.recognisers.specs.Text.{bytes}
-use Rattle.recognisers.specs.Pieces.{piece, quote_piece}
-use Rattle.recognisers.specs.Taking.{taken, more, done, one, typed, spelled, digit1, contains, starts_with, starts_among}
+use Rattle.recognisers.specs.Pieces.{piece}
+use Rattle.recognisers.specs.Taking.{taken, more, done, one, typed, spelled, digit1, contains, starts_with}
 use Rattle.recognisers.specs.Strings.{closed_by, in_sql_server, placeholder_quoted_taken, placeholder_string_taken}
-use Rattle.recognisers.specs.Placeholder.{number_from, number_of, indexed, indexed_key, indexed_taken, placeholder_name, ident_taken, through_brace, braced_text, braced_taken, has_escape, string_key, string_named_taken, string_named_pairs, get_indexed_placeholder_token, get_ident_named_placeholder_token, get_braced_named_placeholder_token, get_string_named_placeholder_token}
-use Rattle.recognisers.proofs.TakenInside.{Inside, or_inside, done_inside, one_inside, spelled_inside, cond_inside, fits_more}
-use Rattle.recognisers.proofs.Digits.{digits_inside, marked_fits, marked_then, marked_not}
-use Rattle.recognisers.proofs.CommentLoops.{PassedAt, passed_more}
+use Rattle.recognisers.specs.Placeholder.{number_from, number_of, indexed_key, indexed_taken, placeholder_name, ident_taken, through_brace, braced_text, braced_taken, has_escape, string_key, string_named_taken, string_named_pairs, get_indexed_placeholder_token, get_ident_named_placeholder_token, get_braced_named_placeholder_token, get_string_named_placeholder_token}
+use Rattle.recognisers.proofs.TakenInside.{Inside, or_inside, done_inside, one_inside, spelled_inside, cond_inside}
+use Rattle.recognisers.proofs.LibraryWords.{found}
+use Rattle.recognisers.proofs.Digits.{digits_inside}
 use Rattle.recognisers.proofs.ClosingQuote.{quoted_inside}
 
 -- ---- a number
@@ -56,41 +55,44 @@ module _ (s : List ℕ) where
     unfolding number_from
     next = rw (add-one i, c) (sym (rw (drop-cons s i 0 h)) ∙ at.same)
 
-    pub number_more : n ≤ (18446744073709551615 - d) / 10 → d < 2 ^ 64 → NumberAt s (n * 10 + d) (i + 1)
-    number_more f f₂ = record { inside = omega arith; fits = omega arith; same = next }
+    pub number_more : n * 10 + d < 2 ^ 64 → NumberAt s (n * 10 + d) (i + 1)
+    number_more f = record { inside = omega arith; fits = f; same = next }
 
-    pub number_over : (18446744073709551615 - d) / 10 < n → Overflows ≡ number_of s
-    number_over f =
-        let o : 2 ^ 64 ≤ number_from 0 s = le_trans (omega arith) (le_trans (grows (n * 10 + d) (drop (i + 1) s)) (le_of_eq next)) in
-        rw (le-ltb (number_from 0 s) (2 ^ 64) o)
+    pub number_over : (q : Option ℕ) → 2 ^ 64 ≤ n * 10 + d → q ≡ None → q ≡ number_of s
+    number_over q f g =
+        let o : 2 ^ 64 ≤ number_from 0 s = le_trans f (le_trans (grows (n * 10 + d) (drop (i + 1) s)) (le_of_eq next)) in
+        g ∙ rw (le-ltb (number_from 0 s) (2 ^ 64) o)
 
-  pub number_end : (n i : ℕ) → NumberAt s n i → length s ≤ i → Is n ≡ number_of s
+  pub number_end : (n i : ℕ) → NumberAt s n i → length s ≤ i → Some n ≡ number_of s
   unfolding number_from
   number_end n i at h =
       let e : n ≡ number_from 0 s = rw (drop_of_length-le s h) at at.same in
       rw (← e, lt-ltb n (2 ^ 64) at.fits)
-
-module _ (number : Number) (n : ℕ) (e : number ≡ Is n) where
-  pub indexed_one : (t : Bool) → t ≡ true → OneIndexed n ≡ indexed t number
-  indexed_one t y = rw (e, y)
-
-  pub indexed_zero : (t : Bool) → t ≡ false → ZeroIndexed n ≡ indexed t number
-  indexed_zero t y = rw (e, y)
 
 module _ (s : List ℕ) (n : ℕ) where
   pub no_index : n ≤ 1 → None ≡ indexed_key s n
   unfolding indexed_key
   no_index h = rw (le-leb n 1 h)
 
-  pub index_is : (t : Bool) (m : Number) (k : Key) → 1 < n → t ≡ starts_with 36 (drop 0 s) → m ≡ number_of (take (n - 1) (drop 1 s)) → k ≡ indexed t m → k ≡ indexed_key s n
-  unfolding indexed_key
-  index_is t m k h f g q = q ∙ rw (lt-leb n 1 h, f, g)
+  module _ (m : Option ℕ) (h : 1 < n) (f : m ≡ number_of (take (n - 1) (drop 1 s))) where
+    pub index_none : (k : Option Key) → m ≡ None → k ≡ None → k ≡ indexed_key s n
+    unfolding indexed_key
+    index_none k g q = q ∙ rw (lt-leb n 1 h, ← f, g)
+
+    module _ (t : Bool) (v : ℕ) (e : t ≡ starts_with 36 (drop 0 s)) (g : m ≡ Some v) where
+      pub from_one : t ≡ true → Some (OneIndexed v) ≡ indexed_key s n
+      unfolding indexed_key
+      from_one y = rw (lt-leb n 1 h, ← f, g, ← e, y)
+
+      pub from_zero : t ≡ false → Some (ZeroIndexed v) ≡ indexed_key s n
+      unfolding indexed_key
+      from_zero y = rw (lt-leb n 1 h, ← f, g, ← e, y)
 
 -- ---- what is taken lies inside
 
 pub name_inside : Inside placeholder_name
 unfolding placeholder_name in_class
-name_inside s = cond_inside (leb 1 (run is_placeholder_name_character 0 s)) (Bytes (run is_placeholder_name_character 0 s)) (length s) (run_inside PlaceholderName 0 s)
+name_inside s = cond_inside (leb 1 (run is_placeholder_name_character 0 s)) (Some (run is_placeholder_name_character 0 s)) (length s) (run_inside PlaceholderName 0 s)
 
 indexed_inside : Inside indexed_taken
 unfolding indexed_taken
@@ -122,115 +124,100 @@ unfolding string_named_taken
 string_named_inside dialect s = one_inside (contains (bytes "@:")) (placeholder_string_taken dialect) (placeholder_string_inside dialect) s
 
 -- n bytes were taken, so the rest has them
-module _ (s : List ℕ) (t : Taken) (n : ℕ) where
-  pub indexed_fits : t ≡ indexed_taken s → t ≡ Bytes n → n ≤ length s
+module _ (s : List ℕ) (t : Option ℕ) (n : ℕ) where
+  pub indexed_fits : t ≡ indexed_taken s → t ≡ Some n → n ≤ length s
   indexed_fits e f = let h : taken t ≤ length s = rw e (indexed_inside s) in rw f at h
 
-  pub string_named_fits : (dialect : Dialect) → t ≡ string_named_taken dialect s → t ≡ Bytes n → n ≤ length s
+  pub string_named_fits : (dialect : Dialect) → t ≡ string_named_taken dialect s → t ≡ Some n → n ≤ length s
   string_named_fits dialect e f = let h : taken t ≤ length s = rw e (string_named_inside dialect s) in rw f at h
 
 -- ---- a token of what was taken
 
-module _ (s : List ℕ) (t : Taken) where
+module _ (s : List ℕ) (t : Option ℕ) where
   module _ (e : t ≡ indexed_taken s) where
-    pub indexed_token : (n : ℕ) (k : Key) → t ≡ Bytes n → k ≡ indexed_key s n → Token (piece Placeholder n k) ≡ get_indexed_placeholder_token s
+    pub indexed_token : (n : ℕ) (k : Option Key) (p : Piece) → t ≡ Some n → k ≡ indexed_key s n → p ≡ piece Placeholder n None → Some (record { kind = p.kind; len = p.len; alias = p.alias; key = k; escaped = p.escaped }) ≡ get_indexed_placeholder_token s
     unfolding get_indexed_placeholder_token
-    indexed_token n k f g = rw (← e, f, g)
+    indexed_token n k p f g h = rw (← e, f, g, h)
 
-    pub indexed_nothing : t ≡ Fails → Nothing ≡ get_indexed_placeholder_token s
+    pub indexed_nothing : (r : Option Piece) → t ≡ None → r ≡ None → r ≡ get_indexed_placeholder_token s
     unfolding get_indexed_placeholder_token
-    indexed_nothing f = rw (← e, f)
+    indexed_nothing r f g = g ∙ rw (← e, f)
 
   module _ (e : t ≡ ident_taken s) where
-    pub ident_token : (n m : ℕ) → t ≡ Bytes n → m ≡ n - 1 → Token (piece Placeholder n (Named 1 m)) ≡ get_ident_named_placeholder_token s
+    pub ident_token : (n m : ℕ) (p : Piece) → t ≡ Some n → m ≡ n - 1 → p ≡ piece Placeholder n None → Some (record { kind = p.kind; len = p.len; alias = p.alias; key = Some (Named 1 m); escaped = p.escaped }) ≡ get_ident_named_placeholder_token s
     unfolding get_ident_named_placeholder_token
-    ident_token n m f g = rw (← e, f, g)
+    ident_token n m p f g h = rw (← e, f, g, h)
 
-    pub ident_nothing : t ≡ Fails → Nothing ≡ get_ident_named_placeholder_token s
+    pub ident_nothing : (r : Option Piece) → t ≡ None → r ≡ None → r ≡ get_ident_named_placeholder_token s
     unfolding get_ident_named_placeholder_token
-    ident_nothing f = rw (← e, f)
+    ident_nothing r f g = g ∙ rw (← e, f)
 
   module _ (e : t ≡ braced_taken s) where
-    pub braced_token : (n m : ℕ) → t ≡ Bytes n → m ≡ n - 2 → Token (piece Placeholder n (Named 1 m)) ≡ get_braced_named_placeholder_token s
+    pub braced_token : (n m : ℕ) (p : Piece) → t ≡ Some n → m ≡ n - 2 → p ≡ piece Placeholder n None → Some (record { kind = p.kind; len = p.len; alias = p.alias; key = Some (Named 1 m); escaped = p.escaped }) ≡ get_braced_named_placeholder_token s
     unfolding get_braced_named_placeholder_token
-    braced_token n m f g = rw (← e, f, g)
+    braced_token n m p f g h = rw (← e, f, g, h)
 
-    pub braced_nothing : t ≡ Fails → Nothing ≡ get_braced_named_placeholder_token s
+    pub braced_nothing : (r : Option Piece) → t ≡ None → r ≡ None → r ≡ get_braced_named_placeholder_token s
     unfolding get_braced_named_placeholder_token
-    braced_nothing f = rw (← e, f)
+    braced_nothing r f g = g ∙ rw (← e, f)
 
   module _ (dialect : Dialect) (e : t ≡ string_named_taken dialect s) where
-    pub string_token : (n : ℕ) (k : Key) (q : ℕ) → t ≡ Bytes n → k ≡ string_key s n → q ≡ string_named_pairs (take n s)
-        → Token (quote_piece Placeholder n k q) ≡ get_string_named_placeholder_token dialect s
+    pub string_token : (n : ℕ) (k : Option Key) (q : ℕ) (p : Piece) → t ≡ Some n → k ≡ string_key s n → q ≡ string_named_pairs (take n s)
+        → p ≡ piece Placeholder n None → Some (record { kind = p.kind; len = p.len; alias = p.alias; key = k; escaped = q }) ≡ get_string_named_placeholder_token dialect s
     unfolding get_string_named_placeholder_token
-    string_token n k q f g h = rw (← e, f, g, h)
+    string_token n k q p f g h i = rw (← e, f, g, h, i)
 
-    pub string_nothing : t ≡ Fails → Nothing ≡ get_string_named_placeholder_token dialect s
+    pub string_nothing : (r : Option Piece) → t ≡ None → r ≡ None → r ≡ get_string_named_placeholder_token dialect s
     unfolding get_string_named_placeholder_token
-    string_nothing f = rw (← e, f)
+    string_nothing r f g = g ∙ rw (← e, f)
 
 -- ---- braces
 
-module _ (s : List ℕ) (i : ℕ) (at : PassedAt through_brace s i) where
-  pub brace_here : i < length s → get_or s i 0 ≡ 125 → Bytes (i + 1) ≡ through_brace s
-  unfolding through_brace
-  brace_here h e = sym (at.same ∙ rw (drop-cons s i 0 h, eq-eqb (get_or s i 0) 125 e))
+brace_at : (s : List ℕ) → through_brace s ≡ option_map (λ i. i + 1) (position (λ b. eqb b 125) s)
+unfolding through_brace
+brace_at [] = refl
+brace_at (b ∷ s) = rw (found (λ b. eqb b 125) b s) (go (eqb b 125) (position (λ b. eqb b 125) s) (brace_at s))
+  where
+    go : (t : Bool) (o : Option ℕ) → through_brace s ≡ option_map (λ i. i + 1) o → cond t (Some 1) (more 1 (through_brace s)) ≡ option_map (λ i. i + 1) (cond t (Some 0) (more 1 o))
+    go true o e = refl
+    go false (Some i) e = rw e (ap Some (omega arith))
+    go false None e = rw e
 
-  pub brace_on : i < length s → (get_or s i 0 ≡ 125 → ⊥) → PassedAt through_brace s (i + 1)
-  unfolding through_brace
-  brace_on h n = passed_more through_brace s i at h (rw (drop-cons s i 0 h, ne_eqb (get_or s i 0) 125 n))
+module _ (s : List ℕ) (t : Option ℕ) (e : t ≡ position (λ b. eqb b 125) s) where
+  pub brace_none : (q : Option ℕ) → t ≡ None → q ≡ None → q ≡ through_brace s
+  brace_none q f g = g ∙ rw (brace_at s, ← e, f)
 
-  pub brace_none : length s ≤ i → Fails ≡ through_brace s
-  unfolding through_brace
-  brace_none h = sym (at.same ∙ rw (drop_of_length-le s h))
+  pub brace_here : (i : ℕ) → t ≡ Some i → Some (i + 1) ≡ through_brace s
+  brace_here i f = rw (brace_at s, ← e, f)
 
 brace_inside : Inside through_brace
 unfolding through_brace
 brace_inside [] = zero-le
 brace_inside (b ∷ s) = go (eqb b 125) (through_brace s) (brace_inside s)
   where
-    go : (t : Bool) (o : Taken) → taken o ≤ length s → taken (cond t (Bytes 1) (more 1 o)) ≤ suc (length s)
+    go : (t : Bool) (o : Option ℕ) → taken o ≤ length s → taken (cond t (Some 1) (more 1 o)) ≤ suc (length s)
     go true o h = omega arith
-    go false (Bytes n) h = omega arith
-    go false Fails h = zero-le
+    go false (Some n) h = omega arith
+    go false None h = zero-le
 
 pub braced_inside : Inside braced_text
 unfolding braced_text
 braced_inside s = go (starts_with 125 s) (brace_inside s)
   where
-    go : (t : Bool) → taken (through_brace s) ≤ length s → taken (cond t Fails (through_brace s)) ≤ length s
+    go : (t : Bool) → taken (through_brace s) ≤ length s → taken (cond t None (through_brace s)) ≤ length s
     go true h = zero-le
     go false h = h
 
 -- ---- escapes
 
-module _ (quote : ℕ) (s : List ℕ) where
-  pub record EscapeAt (i : ℕ) : Type 0 where
-    pub inside : i ≤ length s
-    pub same : has_escape quote (drop i s) ≡ has_escape quote s
-
-  pub escape_start : EscapeAt 0
-  escape_start = record { inside = zero-le; same = refl }
-
-  module _ (i : ℕ) (r : Bool) (at : EscapeAt i) (h : i < length s) (c : r ≡ (starts_with 92 (drop i s) && starts_with quote (drop (i + 1) s))) where
-    pair : r ≡ (eqb (get_or s i 0) 92 && starts_with quote (drop (suc i) s))
-    unfolding starts_with
-    pair = c ∙ rw (drop-cons s i 0 h, add-one i)
-
-    pub escape_here : r ≡ true → true ≡ has_escape quote s
-    unfolding has_escape
-    escape_here t = sym (rw (drop-cons s i 0 h, ← pair, t)) ∙ at.same
-
-    pub escape_on : r ≡ false → EscapeAt (i + 1)
-    unfolding has_escape
-    escape_on t = record { inside = omega arith; same = rw (add-one i) (sym (rw (drop-cons s i 0 h, ← pair, t)) ∙ at.same) }
-
-  pub escape_none : (i : ℕ) → EscapeAt i → length s ≤ i → false ≡ has_escape quote s
-  unfolding has_escape
-  escape_none i at h = rw (drop_of_length-le s h) at at.same
+pub escape_at : (quote : ℕ) (s : List ℕ) → list_any (λ p. eqb p.0 92 && eqb p.1 quote) (zip s (drop 1 s)) ≡ has_escape quote s
+unfolding has_escape starts_with
+escape_at quote [] = refl
+escape_at quote (b ∷ []) = sym (rw (and-false (eqb b 92)))
+escape_at quote (b ∷ d ∷ s) = ap (λ (t : Bool). (eqb b 92 && eqb d quote) || t) (escape_at quote (d ∷ s))
 
 module _ (s : List ℕ) (n : ℕ) where
-  pub short_key : n < 3 → Named 2 0 ≡ string_key s n
+  pub short_key : n < 3 → Some (Named 2 0) ≡ string_key s n
   unfolding string_key has_escape
   short_key h = let z : n - 3 ≡ 0 = omega arith in rw z
 
@@ -238,31 +225,18 @@ module _ (s : List ℕ) (n : ℕ) where
     says : r ≡ has_escape (get_or s (n - 1) 0) (take (n - 3) (drop 2 s))
     says = e ∙ ap (λ (k : ℕ). has_escape (get_or s (n - 1) 0) (take k (drop 2 s))) (let z : n - 1 - 2 ≡ n - 3 = omega arith in z)
 
-    pub escaped_key : r ≡ true → Escaped 2 (n - 3) ≡ string_key s n
+    pub escaped_key : r ≡ true → Some (Escaped 2 (n - 3)) ≡ string_key s n
     unfolding string_key
     escaped_key t = rw (← says, t)
 
-    pub named_key : r ≡ false → Named 2 (n - 3) ≡ string_key s n
+    pub named_key : r ≡ false → Some (Named 2 (n - 3)) ≡ string_key s n
     unfolding string_key
     named_key t = rw (← says, t)
 
--- ---- the string behind the mark
-
-module _ (dialect : Dialect) (m s : List ℕ) (r : Bool) (e : r ≡ starts_among m s) where
-  pub marked_string_then : (t q : Taken) → r ≡ true → t ≡ placeholder_string_taken dialect (take (length s - 1) (drop 1 s)) → q ≡ more 1 t → q ≡ one (contains m) (placeholder_string_taken dialect) s
-  marked_string_then = marked_then (placeholder_string_taken dialect) m s r e
-
-  pub marked_string_not : r ≡ false → Fails ≡ one (contains m) (placeholder_string_taken dialect) s
-  marked_string_not = marked_not (placeholder_string_taken dialect) m s r e
-
-  pub marked_string_fits : (t : Taken) → r ≡ true → t ≡ placeholder_string_taken dialect (take (length s - 1) (drop 1 s)) → length s < 2 ^ 64 → 1 + taken t < 2 ^ 64
-  marked_string_fits t y q f =
-      fits_more (placeholder_string_taken dialect) (placeholder_string_inside dialect) s 1 t q (marked_fits (placeholder_string_taken dialect) m s r e y) f
-
-pub brace_first : (s : List ℕ) (r : Bool) → r ≡ starts_with 125 (drop 0 s) → r ≡ true → Fails ≡ braced_text s
+pub brace_first : (s : List ℕ) (r : Bool) → r ≡ starts_with 125 (drop 0 s) → r ≡ true → None ≡ braced_text s
 unfolding braced_text
 brace_first s r e t = rw (← e, t)
 
-pub brace_later : (s : List ℕ) (r : Bool) (q : Taken) → r ≡ starts_with 125 (drop 0 s) → r ≡ false → q ≡ through_brace s → q ≡ braced_text s
+pub brace_later : (s : List ℕ) (r : Bool) (q : Option ℕ) → r ≡ starts_with 125 (drop 0 s) → r ≡ false → q ≡ through_brace s → q ≡ braced_text s
 unfolding braced_text
 brace_later s r q e t f = f ∙ rw (← e, t)

@@ -1,5 +1,6 @@
 -- The order of the placeholders' forms: which of them its first byte leaves.
 -- Assumes nothing.
+use Rattle.std.proofs.Common.{Option, Some, None}
 use Prim.Native.Nat.{ℕ, suc, ◌<◌, suc-le-suc, zero-le}
 use native.Mathlib.Omega.{arith}
 use mathlib.Core.Path.{◌≡◌, refl, sym, ap, ◌∙◌}
@@ -8,7 +9,7 @@ use mathlib.Core.Bool.{Bool, true, false, cond, not, ◌&&◌, ◌||◌, false�
 use lib.ListN.{drop}
 use lib.Dec.{ltb, eqb}
 use borrow.Author.Tests.{eqb-true, le-leb}
-use Rattle.characters.specs.Ascii.{is_letter, is_space, ascii_kind}
+use Rattle.characters.specs.Ascii.{is_letter}
 use Rattle.characters.specs.Character.{continuations, continued}
 use Rattle.characters.specs.Classes.{is_placeholder_name_character}
 use Rattle.characters.specs.Runs.{run}
@@ -17,8 +18,6 @@ use Rattle.characters.proofs.RunLaws.{ascii_first}
 use Rattle.characters.proofs.Within.{within_high}
 use Rattle.recognisers.specs.declared.Dialect.{Dialect}
 use Rattle.recognisers.specs.declared.Piece.{Piece}
-use Rattle.recognisers.specs.declared.Recognised.{Recognised}
-use Rattle.recognisers.specs.declared.Recognised.TheVariants.{Token, Nothing}
 use Rattle.recognisers.specs.Taking.{one, spelled, typed, is_digit, count, digit1, contains, starts_with}
 use Rattle.recognisers.specs.Pieces.{alt}
 use Rattle.recognisers.specs.Placeholder.{placeholder_name, indexed_taken, get_indexed_placeholder_token, ident_taken, get_ident_named_placeholder_token, braced_taken, get_braced_named_placeholder_token, string_named_taken, get_string_named_placeholder_token, get_placeholder_token}
@@ -28,10 +27,9 @@ use Rattle.recognisers.proofs.OrderedChoice.{first_recognises, rest_recognises}
 -- ---- a digit may stand in a name
 
 digit_named : (d : ℕ) → is_digit d ≡ true → is_placeholder_name_character d ≡ true
-unfolding ascii_kind
-digit_named d w = ((and-eq-true_iff (ltb d 128) (is_placeholder_name_character d)).0 (sym (name_byte d (ascii_kind d) refl) ∙ go (is_letter d))).1
+digit_named d w = ((and-eq-true_iff (ltb d 128) (is_placeholder_name_character d)).0 (sym (name_byte d) ∙ go (is_letter d))).1
   where
-    go : (t : Bool) → (eqb (cond t 2 (cond (is_digit d) 3 (cond (eqb d 0x5F) 4 (cond (is_space d) 1 0)))) 2 || (eqb (cond t 2 (cond (is_digit d) 3 (cond (eqb d 0x5F) 4 (cond (is_space d) 1 0)))) 3 || (eqb d 0x2E || (eqb d 0x5F || eqb d 0x24)))) ≡ true
+    go : (t : Bool) → (t || (is_digit d || (eqb d 0x2E || (eqb d 0x5F || eqb d 0x24)))) ≡ true
     go true = refl
     go false = rw w
 
@@ -75,43 +73,46 @@ module _ (dialect : Dialect) where
   places_first : (b : ℕ) (s : List ℕ) → eqb b 123 ≡ false
       → alt (get_indexed_placeholder_token (b ∷ s)) (alt (get_ident_named_placeholder_token (b ∷ s)) (get_string_named_placeholder_token dialect (b ∷ s))) ≡ get_placeholder_token false dialect (b ∷ s)
   unfolding get_placeholder_token get_braced_named_placeholder_token braced_taken spelled one typed
-  places_first b s j = rw j (ap (λ (x : Recognised). alt (get_indexed_placeholder_token (b ∷ s)) (alt (get_ident_named_placeholder_token (b ∷ s)) x)) (alt_nothing _))
+  places_first b s j = rw j (ap (λ (x : Option Piece). alt (get_indexed_placeholder_token (b ∷ s)) (alt (get_ident_named_placeholder_token (b ∷ s)) x)) (alt_nothing _))
 
   -- ---- both
 
   in_order : (named : Bool) (s : List ℕ) → starts_with 123 s ≡ false
-      → alt (cond (named && not (starts_with 63 s)) Nothing (get_indexed_placeholder_token s)) (alt (get_ident_named_placeholder_token s) (get_string_named_placeholder_token dialect s)) ≡ get_placeholder_token named dialect s
+      → alt (cond (named && not (starts_with 63 s)) None (get_indexed_placeholder_token s)) (alt (get_ident_named_placeholder_token s) (get_string_named_placeholder_token dialect s)) ≡ get_placeholder_token named dialect s
   unfolding starts_with get_placeholder_token get_ident_named_placeholder_token get_string_named_placeholder_token get_indexed_placeholder_token get_braced_named_placeholder_token indexed_taken ident_taken string_named_taken braced_taken spelled one
   in_order true [] n = refl
   in_order false [] n = refl
   in_order false (b ∷ s) n = places_first b s n
   in_order true (b ∷ s) n = go (eqb b 63) refl
     where
-      go : (t : Bool) → eqb b 63 ≡ t → alt (cond (not t) Nothing (get_indexed_placeholder_token (b ∷ s))) (alt (get_ident_named_placeholder_token (b ∷ s)) (get_string_named_placeholder_token dialect (b ∷ s))) ≡ get_placeholder_token true dialect (b ∷ s)
+      go : (t : Bool) → eqb b 63 ≡ t → alt (cond (not t) None (get_indexed_placeholder_token (b ∷ s))) (alt (get_ident_named_placeholder_token (b ∷ s)) (get_string_named_placeholder_token dialect (b ∷ s))) ≡ get_placeholder_token true dialect (b ∷ s)
       go true q = rw (eqb-true b 63 q) (mark_first s)
       go false q = names_first b s q n
 
 -- as `without_braces` uses it
-module _ (named : Bool) (dialect : Dialect) (s : List ℕ) (n : starts_with 123 s ≡ false) (found : Recognised) (e : found ≡ cond (named && not (starts_with 63 s)) Nothing (get_indexed_placeholder_token s)) where
-  pub index_found : (p : Piece) → found ≡ Token p → Token p ≡ get_placeholder_token named dialect s
+module _ (named : Bool) (dialect : Dialect) (s : List ℕ) (n : starts_with 123 s ≡ false) (found : Option Piece) (e : found ≡ cond (named && not (starts_with 63 s)) None (get_indexed_placeholder_token s)) where
+  pub index_found : (p : Piece) → found ≡ Some p → Some p ≡ get_placeholder_token named dialect s
   index_found p k = first_recognises _ _ found p e k ∙ in_order dialect named s n
 
-  pub name_found : (r : Recognised) → found ≡ Nothing → r ≡ alt (get_ident_named_placeholder_token s) (get_string_named_placeholder_token dialect s) → r ≡ get_placeholder_token named dialect s
+  pub name_found : (r : Option Piece) → found ≡ None → r ≡ alt (get_ident_named_placeholder_token s) (get_string_named_placeholder_token dialect s) → r ≡ get_placeholder_token named dialect s
   name_found r k f = rest_recognises _ _ found r e k f ∙ in_order dialect named s n
+
+  pub ordered : (r : Option Piece) → r ≡ alt found (alt (get_ident_named_placeholder_token s) (get_string_named_placeholder_token dialect s)) → r ≡ get_placeholder_token named dialect s
+  ordered r f = f ∙ rw e (in_order dialect named s n)
 
 -- as `index_before_name` uses it
 module _ (named p : Bool) (s : List ℕ) where
-  pub named_mark : (r : Recognised) → named ≡ true → p ≡ starts_with 63 (drop 0 s) → p ≡ true → r ≡ get_indexed_placeholder_token s → r ≡ cond (named && not (starts_with 63 s)) Nothing (get_indexed_placeholder_token s)
+  pub named_mark : (r : Option Piece) → named ≡ true → p ≡ starts_with 63 (drop 0 s) → p ≡ true → r ≡ get_indexed_placeholder_token s → r ≡ cond (named && not (starts_with 63 s)) None (get_indexed_placeholder_token s)
   named_mark r n e t f = f ∙ rw (n, ← e, t)
 
-  pub named_other : named ≡ true → p ≡ starts_with 63 (drop 0 s) → p ≡ false → Nothing ≡ cond (named && not (starts_with 63 s)) Nothing (get_indexed_placeholder_token s)
+  pub named_other : named ≡ true → p ≡ starts_with 63 (drop 0 s) → p ≡ false → None ≡ cond (named && not (starts_with 63 s)) None (get_indexed_placeholder_token s)
   named_other n e t = rw (n, ← e, t)
 
-pub unnamed : (named : Bool) (s : List ℕ) (r : Recognised) → named ≡ false → r ≡ get_indexed_placeholder_token s → r ≡ cond (named && not (starts_with 63 s)) Nothing (get_indexed_placeholder_token s)
+pub unnamed : (named : Bool) (s : List ℕ) (r : Option Piece) → named ≡ false → r ≡ get_indexed_placeholder_token s → r ≡ cond (named && not (starts_with 63 s)) None (get_indexed_placeholder_token s)
 unnamed named s r n f = f ∙ rw n
 
 -- as `try_placeholder` uses it
-pub braces_are : (named : Bool) (dialect : Dialect) (s : List ℕ) (p : Bool) (r : Recognised) → p ≡ starts_with 123 (drop 0 s) → p ≡ true → r ≡ get_braced_named_placeholder_token s → r ≡ get_placeholder_token named dialect s
+pub braces_are : (named : Bool) (dialect : Dialect) (s : List ℕ) (p : Bool) (r : Option Piece) → p ≡ starts_with 123 (drop 0 s) → p ≡ true → r ≡ get_braced_named_placeholder_token s → r ≡ get_placeholder_token named dialect s
 unfolding starts_with get_placeholder_token get_ident_named_placeholder_token get_string_named_placeholder_token get_indexed_placeholder_token indexed_taken ident_taken string_named_taken spelled one typed contains
 braces_are named dialect [] p r e q f = absurd (false≢true (sym e ∙ q))
 braces_are true dialect (b ∷ s) p r e q f = f ∙ rw (eqb-true b 123 (sym e ∙ q))

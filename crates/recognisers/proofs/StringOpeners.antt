@@ -1,5 +1,6 @@
 -- Which opener a string can have, by its first byte.
 -- Assumes nothing.
+use Rattle.std.proofs.Common.{Option, None}
 use Prim.Native.Nat.{ℕ}
 use mathlib.Core.Path.{◌≡◌, refl, sym, ◌∙◌}
 use mathlib.Core.Bool.{Bool, true, false, cond, false≢true}
@@ -10,8 +11,6 @@ use borrow.Author.Tests.{eqb-true}
 use Rattle.recognisers.specs.Text.{byte, bytes}
 use Rattle.recognisers.specs.declared.Dialect.{Dialect}
 use Rattle.recognisers.specs.declared.Dialect.TheVariants.{Generic, PostgreSql, SQLServer}
-use Rattle.recognisers.specs.declared.Taken.{Taken}
-use Rattle.recognisers.specs.declared.Taken.TheVariants.{Fails}
 use Rattle.recognisers.specs.Taking.{more, or, one, spelled, typed, literal, starts_with}
 use Rattle.recognisers.specs.Strings.{closed_by, in_sql_server, hex_taken, quoted_taken, string_taken, placeholder_quoted_taken, placeholder_string_taken}
 use Rattle.recognisers.proofs.FirstBytes.{or_fails}
@@ -42,7 +41,7 @@ bracket_cons b s e Generic = rw e
 bracket_cons b s e PostgreSql = rw e
 bracket_cons b s e SQLServer = rw e (or_fails _)
 
-module _ (dialect : Dialect) (p : Bool) (r : Taken) where
+module _ (dialect : Dialect) (p : Bool) (r : Option ℕ) where
   pub single_is : (s : List ℕ) → p ≡ starts_with 39 (drop 0 s) → p ≡ true → r ≡ more 1 (closed_by (byte "'") (bytes "'\\") (drop 1 s)) → r ≡ string_taken dialect s
   unfolding starts_with
   single_is [] e q f = absurd (false≢true (sym e ∙ q))
@@ -75,32 +74,32 @@ none_cons Generic = refl
 none_cons PostgreSql = refl
 none_cons SQLServer = refl
 
-pub other_is : (dialect : Dialect) (r : Taken) (s : List ℕ) (p q t u : Bool) → p ≡ starts_with 39 (drop 0 s) → p ≡ false → q ≡ starts_with 34 (drop 0 s) → q ≡ false → t ≡ starts_with 96 (drop 0 s) → t ≡ false → u ≡ starts_with 91 (drop 0 s) → u ≡ false
+pub other_is : (dialect : Dialect) (r : Option ℕ) (s : List ℕ) (p q t u : Bool) → p ≡ starts_with 39 (drop 0 s) → p ≡ false → q ≡ starts_with 34 (drop 0 s) → q ≡ false → t ≡ starts_with 96 (drop 0 s) → t ≡ false → u ≡ starts_with 91 (drop 0 s) → u ≡ false
     → r ≡ or (literal (bytes "N'") (closed_by (byte "'") (bytes "'\\")) s) (or (literal (bytes "E'") (closed_by (byte "'") (bytes "'\\")) s) (hex_taken s)) → r ≡ string_taken dialect s
 unfolding starts_with
 other_is dialect r [] p q t u e e' f f' g g' h h' k = k ∙ none_cons dialect
 other_is dialect r (b ∷ s) p q t u e e' f f' g g' h h' k = k ∙ other_cons b s (sym e ∙ e') (sym f ∙ f') (sym g ∙ g') (sym h ∙ h') dialect
 
 -- a letter opens a string only before a single quote
-either_fails : (t : Bool) → cond t Fails Fails ≡ Fails
+either_fails : (t : Bool) → ◌≡◌ {A = Option ℕ} (cond {A = Option ℕ} t None None) None
 either_fails true = refl
 either_fails false = refl
 
 unquoted_cons : (b : ℕ) (s : List ℕ) → starts_with 39 s ≡ false
-    → Fails ≡ or (literal (bytes "N'") (closed_by (byte "'") (bytes "'\\")) (b ∷ s)) (or (literal (bytes "E'") (closed_by (byte "'") (bytes "'\\")) (b ∷ s)) (hex_taken (b ∷ s)))
+    → None ≡ or (literal (bytes "N'") (closed_by (byte "'") (bytes "'\\")) (b ∷ s)) (or (literal (bytes "E'") (closed_by (byte "'") (bytes "'\\")) (b ∷ s)) (hex_taken (b ∷ s)))
 unfolding hex_taken spelled one typed starts_with
 unquoted_cons b [] n = rw (either_fails (eqb b 78), either_fails (eqb b 69), either_fails (eqb b 120), either_fails (eqb b 88))
 unquoted_cons b (d ∷ s) n = rw (n, either_fails (eqb b 78), either_fails (eqb b 69), either_fails (eqb b 120), either_fails (eqb b 88))
 
 no_letters : (s : List ℕ) → starts_with 39 (drop 1 s) ≡ false
-    → Fails ≡ or (literal (bytes "N'") (closed_by (byte "'") (bytes "'\\")) s) (or (literal (bytes "E'") (closed_by (byte "'") (bytes "'\\")) s) (hex_taken s))
+    → None ≡ or (literal (bytes "N'") (closed_by (byte "'") (bytes "'\\")) s) (or (literal (bytes "E'") (closed_by (byte "'") (bytes "'\\")) s) (hex_taken s))
 unfolding hex_taken spelled one
 no_letters [] n = refl
 no_letters (b ∷ s) n = unquoted_cons b s n
 
 pub unquoted_is : (dialect : Dialect) (s : List ℕ) (p q t u v : Bool) → p ≡ starts_with 39 (drop 0 s) → p ≡ false → q ≡ starts_with 34 (drop 0 s) → q ≡ false → t ≡ starts_with 96 (drop 0 s) → t ≡ false → u ≡ starts_with 91 (drop 0 s) → u ≡ false
-    → v ≡ starts_with 39 (drop 1 s) → v ≡ false → Fails ≡ string_taken dialect s
-unquoted_is dialect s p q t u v e e' f f' g g' h h' k k' = other_is dialect Fails s p q t u e e' f f' g g' h h' (no_letters s (sym k ∙ k'))
+    → v ≡ starts_with 39 (drop 1 s) → v ≡ false → None ≡ string_taken dialect s
+unquoted_is dialect s p q t u v e e' f f' g g' h h' k k' = other_is dialect None s p q t u e e' f f' g g' h h' (no_letters s (sym k ∙ k'))
 
 -- ---- of a placeholder
 
@@ -128,7 +127,7 @@ named_bracket_cons b s e Generic = rw e
 named_bracket_cons b s e PostgreSql = rw e
 named_bracket_cons b s e SQLServer = rw e (or_fails _)
 
-module _ (dialect : Dialect) (p : Bool) (r : Taken) where
+module _ (dialect : Dialect) (p : Bool) (r : Option ℕ) where
   pub named_single_is : (s : List ℕ) → p ≡ starts_with 39 (drop 0 s) → p ≡ true → r ≡ literal (bytes "'") (closed_by (byte "'") (bytes "\\")) s → r ≡ placeholder_string_taken dialect s
   unfolding starts_with
   named_single_is [] e q f = absurd (false≢true (sym e ∙ q))
@@ -161,7 +160,7 @@ named_none_cons Generic = refl
 named_none_cons PostgreSql = refl
 named_none_cons SQLServer = refl
 
-pub named_other_is : (dialect : Dialect) (r : Taken) (s : List ℕ) (p q t u : Bool) → p ≡ starts_with 39 (drop 0 s) → p ≡ false → q ≡ starts_with 34 (drop 0 s) → q ≡ false → t ≡ starts_with 96 (drop 0 s) → t ≡ false → u ≡ starts_with 91 (drop 0 s) → u ≡ false
+pub named_other_is : (dialect : Dialect) (r : Option ℕ) (s : List ℕ) (p q t u : Bool) → p ≡ starts_with 39 (drop 0 s) → p ≡ false → q ≡ starts_with 34 (drop 0 s) → q ≡ false → t ≡ starts_with 96 (drop 0 s) → t ≡ false → u ≡ starts_with 91 (drop 0 s) → u ≡ false
     → r ≡ literal (bytes "N'") (closed_by (byte "'") (bytes "\\")) s → r ≡ placeholder_string_taken dialect s
 unfolding starts_with
 named_other_is dialect r [] p q t u e e' f f' g g' h h' k = k ∙ named_none_cons dialect

@@ -1,5 +1,6 @@
 -- What a taker takes lies inside the rest.
 -- Assumes nothing.
+use Rattle.std.proofs.Common.{Option, Some, None}
 use Prim.Native.Nat.{ℕ, suc, ◌+◌, ◌-◌, ◌^◌, ◌≤◌, ◌<◌, zero-le}
 use native.Mathlib.Nat.{le_refl}
 use native.Mathlib.Omega.{arith}
@@ -8,8 +9,6 @@ use mathlib.Core.List.{List, [], ◌∷◌}
 use mathlib.Core.Bool.{Bool, true, false, cond}
 use lib.ListN.{length, drop, take, length-drop}
 use lib.Dec.{leb, eqb}
-use Rattle.recognisers.specs.declared.Taken.{Taken}
-use Rattle.recognisers.specs.declared.Taken.TheVariants.{Bytes, Fails}
 use Rattle.recognisers.specs.Taking.{Taker, taken, more, or, done, one, spelled, end_of_word, digit1, digit0, count, is_digit}
 use Rattle.recognisers.proofs.ByteLoops.{count_inside}
 use Rattle.characters.proofs.Rests.{part_end}
@@ -19,17 +18,17 @@ use Rattle.characters.specs.Character.{code_point}
 abbrev pub Inside : Taker → Type 0
 Inside part = (s : List ℕ) → taken (part s) ≤ length s
 
-more_at_most : (n : ℕ) (t : Taken) → taken (more n t) ≤ n + taken t
-more_at_most n (Bytes m) = le_refl (n + m)
-more_at_most n Fails = zero-le
+more_at_most : (n : ℕ) (t : Option ℕ) → taken (more n t) ≤ n + taken t
+more_at_most n (Some m) = le_refl (n + m)
+more_at_most n None = zero-le
 
-pub cond_inside : (b : Bool) (t : Taken) (k : ℕ) → taken t ≤ k → taken (cond b t Fails) ≤ k
+pub cond_inside : (b : Bool) (t : Option ℕ) (k : ℕ) → taken t ≤ k → taken (cond b t None) ≤ k
 cond_inside true t k h = h
 cond_inside false t k h = zero-le
 
-pub or_inside : (a b : Taken) (k : ℕ) → taken a ≤ k → taken b ≤ k → taken (or a b) ≤ k
-or_inside (Bytes n) b k h l = h
-or_inside Fails b k h l = l
+pub or_inside : (a b : Option ℕ) (k : ℕ) → taken a ≤ k → taken b ≤ k → taken (or a b) ≤ k
+or_inside (Some n) b k h l = h
+or_inside None b k h l = l
 
 pub done_inside : Inside done
 done_inside s = zero-le
@@ -48,7 +47,7 @@ pub end_of_word_inside : Inside end_of_word
 unfolding end_of_word
 end_of_word_inside s = go (is_word_character (code_point s))
   where
-    go : (t : Bool) → taken (cond t Fails (Bytes 0)) ≤ length s
+    go : (t : Bool) → taken (cond t None (Some 0)) ≤ length s
     go true = zero-le
     go false = zero-le
 
@@ -69,7 +68,7 @@ digit1_inside then h s =
     (then_inside (count is_digit s) then s (count_inside is_digit s) h)
 
 -- as a caller of `n_more` needs it: t is what a taker takes of the rest from n on
-pub fits_more : (part : Taker) → Inside part → (s : List ℕ) (n : ℕ) (t : Taken) → t ≡ part (take (length s - n) (drop n s)) → n ≤ length s → length s < 2 ^ 64 → n + taken t < 2 ^ 64
+pub fits_more : (part : Taker) → Inside part → (s : List ℕ) (n : ℕ) (t : Option ℕ) → t ≡ part (take (length s - n) (drop n s)) → n ≤ length s → length s < 2 ^ 64 → n + taken t < 2 ^ 64
 fits_more part h s n t e l f =
     let k = h (drop n s) in
     let q : t ≡ part (drop n s) = rw (part_end s n) at e in

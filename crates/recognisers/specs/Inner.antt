@@ -1,4 +1,5 @@
 -- For the contracts of inner functions alone: no promise of the crate names any of it.
+pub mod Behind
 pub mod KeyStart
 pub mod Known
 pub mod WordLength

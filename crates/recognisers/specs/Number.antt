@@ -1,7 +1,7 @@
 -- `get_number_token`, `decimal_number` and `scientific_notation`.
-use Rattle.std.specs.Prelude.{ℕ, List}
+use Rattle.std.specs.Prelude.{ℕ, List, Option}
+use Rattle.recognisers.specs.declared.Piece.{Piece}
 use Rattle.recognisers.specs.declared.TokenKind.TheVariants.{Number}
-use Rattle.recognisers.specs.declared.Recognised.{Recognised}
 use Rattle.recognisers.specs.Text.{bytes}
 use Rattle.recognisers.specs.Taking.{Taker, or, done, one, literal, digit1, digit0, contains}
 use Rattle.recognisers.specs.Pieces.{token_of}
@@ -22,5 +22,5 @@ scientific_notation s = or (decimal_number exponent s) (digit1 exponent s)
 unfoldable pub unsigned : Taker
 unsigned s = or (scientific_notation s) (or (decimal_number done s) (digit1 done s))
 
-unfoldable pub get_number_token : List ℕ → Recognised
+unfoldable pub get_number_token : List ℕ → Option Piece
 get_number_token s = token_of Number (or (literal (bytes "-") unsigned s) (unsigned s))

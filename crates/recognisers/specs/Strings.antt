@@ -1,11 +1,9 @@
 -- `take_till_escaping`, `get_string_token` and `get_placeholder_string_token`.
-use Rattle.std.specs.Prelude.{ℕ, suc, Bool, true, false, cond, not, ◌&&◌, List, [], ◌∷◌, eqb, take, drop}
+use Rattle.std.specs.Prelude.{ℕ, suc, Bool, true, false, cond, not, ◌&&◌, List, [], ◌∷◌, eqb, take, drop, Option, Some, None}
+use Rattle.recognisers.specs.declared.Piece.{Piece}
 use Rattle.recognisers.specs.declared.Dialect.{Dialect}
 use Rattle.recognisers.specs.declared.Dialect.TheVariants.{Generic, PostgreSql, SQLServer}
-use Rattle.recognisers.specs.declared.Taken.TheVariants.{Bytes, Fails}
-use Rattle.recognisers.specs.declared.Key.TheVariants.{None}
 use Rattle.recognisers.specs.declared.TokenKind.TheVariants.{String}
-use Rattle.recognisers.specs.declared.Recognised.{Recognised}
 use Rattle.recognisers.specs.Text.{byte, bytes}
 use Rattle.recognisers.specs.Taking.{Taker, more, or, literal, contains, starts_with, starts_among}
 use Rattle.recognisers.specs.Pieces.{quote_token}
@@ -14,10 +12,10 @@ use Rattle.recognisers.specs.Pieces.{quote_token}
 -- (The Rust then takes the rest, and the `any` behind it fails.) An escape and the `desired` byte behind it are passed
 -- together: `behind` says that the next byte is such a one.
 unfoldable pub take_till_escaping : ℕ → List ℕ → Bool → Taker
-take_till_escaping desired escapes behind [] = Fails
+take_till_escaping desired escapes behind [] = None
 take_till_escaping desired escapes true (b ∷ s) = more 1 (take_till_escaping desired escapes false s)
 take_till_escaping desired escapes false (b ∷ s) =
-    cond (not (contains escapes b && starts_with desired s) && eqb b desired) (Bytes 0)
+    cond (not (contains escapes b && starts_with desired s) && eqb b desired) (Some 0)
     (more 1 (take_till_escaping desired escapes (contains escapes b && starts_with desired s) s))
 
 -- How many pairs it passes on that way: it walks alike, and counts the byte behind an escape.
@@ -33,8 +31,8 @@ unfoldable pub closed_by : ℕ → List ℕ → Taker
 closed_by desired escapes s = more 1 (take_till_escaping desired escapes false s)
 
 abbrev pub in_sql_server : Dialect → Taker → Taker
-in_sql_server Generic taker s = Fails
-in_sql_server PostgreSql taker s = Fails
+in_sql_server Generic taker s = None
+in_sql_server PostgreSql taker s = None
 in_sql_server SQLServer taker s = taker s
 
 -- hexadecimal strings know no escapes
@@ -72,7 +70,7 @@ pairs_in single double letters value =
 unfoldable pub string_pairs : List ℕ → ℕ
 string_pairs value = pairs_in (bytes "'\\") (bytes "\"\\") (bytes "NE") value
 
-unfoldable pub get_string_token : Dialect → List ℕ → Recognised
+unfoldable pub get_string_token : Dialect → List ℕ → Option Piece
 get_string_token dialect s = quote_token String (λ n. None) (λ n. string_pairs (take n s)) (string_taken dialect s)
 
 -- like the above, with other escapes

@@ -1,34 +1,32 @@
 -- What the recognisers are made of. Each taker says how many bytes it takes from the start of the rest, or fails; `then` is
 -- the taker that follows it.
-use Rattle.std.specs.Prelude.{ℕ, suc, ◌+◌, ◌-◌, Bool, true, false, cond, ◌&&◌, ◌||◌, List, [], ◌∷◌, drop, leb, eqb}
-use Rattle.recognisers.specs.declared.Taken.{Taken}
-use Rattle.recognisers.specs.declared.Taken.TheVariants.{Bytes, Fails}
+use Rattle.std.specs.Prelude.{ℕ, suc, ◌+◌, ◌-◌, Bool, true, false, cond, ◌&&◌, ◌||◌, List, [], ◌∷◌, drop, leb, eqb, Option, Some, None}
 use Rattle.characters.specs.Ranges.{within}
 use Rattle.characters.specs.Classes.{is_whitespace, is_word_character}
 use Rattle.characters.specs.Character.{code_point}
 use Rattle.characters.specs.Runs.{run}
 
 abbrev pub Taker : Type 0
-Taker = List ℕ → Taken
+Taker = List ℕ → Option ℕ
 
 -- n bytes more
-abbrev pub more : ℕ → Taken → Taken
-more n (Bytes m) = Bytes (n + m)
-more n Fails = Fails
+abbrev pub more : ℕ → Option ℕ → Option ℕ
+more n (Some m) = Some (n + m)
+more n None = None
 
 -- the first that does not fail
-abbrev pub or : Taken → Taken → Taken
-or (Bytes n) other = Bytes n
-or Fails other = other
+abbrev pub or : Option ℕ → Option ℕ → Option ℕ
+or (Some n) other = Some n
+or None other = other
 
 -- nothing more
 abbrev pub done : Taker
-done s = Bytes 0
+done s = Some 0
 
 -- one byte that passes the test
 unfoldable pub one : (ℕ → Bool) → Taker → Taker
-one test then [] = Fails
-one test then (b ∷ s) = cond (test b) (more 1 (then s)) Fails
+one test then [] = None
+one test then (b ∷ s) = cond (test b) (more 1 (then s)) None
 
 -- these bytes, in a form of the text's
 unfoldable pub spelled : (ℕ → ℕ) → List ℕ → Taker → Taker
@@ -58,11 +56,11 @@ caseless word then = spelled capital word then
 
 -- at least one whitespace character, and all that follow
 unfoldable pub blanks : Taker → Taker
-blanks then s = cond (is_whitespace (code_point s)) (more (run is_whitespace 0 s) (then (drop (run is_whitespace 0 s) s))) Fails
+blanks then s = cond (is_whitespace (code_point s)) (more (run is_whitespace 0 s) (then (drop (run is_whitespace 0 s) s))) None
 
 -- no word character comes next: the end of the text has code point 0, which is none
 unfoldable pub end_of_word : Taker
-end_of_word s = cond (is_word_character (code_point s)) Fails (Bytes 0)
+end_of_word s = cond (is_word_character (code_point s)) None (Some 0)
 
 abbrev pub is_digit : ℕ → Bool
 is_digit b = within 0x30 0x39 b
@@ -74,20 +72,20 @@ count test (b ∷ s) = cond (test b) (suc (count test s)) 0
 
 -- ASCII digits, one at least, and all that follow
 unfoldable pub digit1 : Taker → Taker
-digit1 then s = cond (leb 1 (count is_digit s)) (more (count is_digit s) (then (drop (count is_digit s) s))) Fails
+digit1 then s = cond (leb 1 (count is_digit s)) (more (count is_digit s) (then (drop (count is_digit s) s))) None
 
 -- ASCII digits, or none
 unfoldable pub digit0 : Taker → Taker
 digit0 then s = more (count is_digit s) (then (drop (count is_digit s) s))
 
 -- so many bytes, where there are that many at least
-abbrev pub at_least : ℕ → ℕ → Taken
-at_least least n = cond (leb least n) (Bytes n) Fails
+abbrev pub at_least : ℕ → ℕ → Option ℕ
+at_least least n = cond (leb least n) (Some n) None
 
 -- how many bytes were taken
-abbrev pub taken : Taken → ℕ
-taken (Bytes n) = n
-taken Fails = 0
+abbrev pub taken : Option ℕ → ℕ
+taken (Some n) = n
+taken None = 0
 
 -- the byte is among them
 unfoldable pub contains : List ℕ → ℕ → Bool

@@ -1,22 +1,29 @@
-// What looks that failed tell of later ones: for each closing sign, the length of the longest rest that is known to lack it; and for a
-// line that a CR without LF ends, the lengths of its shortest and its longest rest.
-ghost use Rattle.std.specs.Prelude.{◌≡◌, [], ◌∷◌};
+// What looks that failed tell of later ones.
+ghost use Rattle.std.specs.Prelude.{◌≡◌};
+ghost use Rattle.recognisers.specs.Inner.Known.{nothing_known};
 
-pub const SQUARE: usize = 0;
-
-pub const DOUBLE: usize = 1;
-
-pub const SINGLE: usize = 2;
-
-pub const BRACE: usize = 3;
-
-pub const LONE: usize = 4;
-
-pub const LINE: usize = 5;
+// For each closing sign, the length of the longest rest that is known to lack it; and for a line that a CR without LF ends, the lengths
+// of its shortest and its longest rest.
+#[derive(Clone, Copy)]
+pub struct Hints {
+    pub square: usize,
+    pub double: usize,
+    pub single: usize,
+    pub brace: usize,
+    pub line_shortest: usize,
+    pub line_longest: usize,
+}
 
 // Nothing is known at first.
-pub fn no_hints() -> [usize; 6]
-    ensures { result ≡ 0 ∷ 0 ∷ 0 ∷ 0 ∷ 1 ∷ 0 ∷ [] }
+pub fn no_hints() -> Hints
+    ensures { result ≡ nothing_known }
 {
-    [0, 0, 0, 0, 1, 0]
+    Hints {
+        square: 0,
+        double: 0,
+        single: 0,
+        brace: 0,
+        line_shortest: 1,
+        line_longest: 0,
+    }
 }

@@ -1,86 +1,90 @@
 // `get_open_paren_token` and `get_close_paren_token`.
 ghost use Rattle.std.specs.Prelude.{◌≡◌};
-ghost use Rattle.recognisers.specs.Taking.{done, literal, caseless, blanks, end_of_word};
+ghost use Rattle.recognisers.specs.Text.{bytes};
+ghost use Rattle.recognisers.specs.Taking.{or, done, literal, caseless, blanks, end_of_word};
 ghost use Rattle.recognisers.specs.Parens.{in_postgre_sql, get_open_paren_token, get_close_paren_token};
 
-use crate::scan::{
-    caseless_word, exactly, first_of, is_spelled_caseless, n_more, stands_at, starts_among,
-    token_of,
-};
-use crate::{Dialect, Recognised, Taken, TokenKind};
+use crate::scan::{behind_caseless, caseless_word, exactly, stands_at, starts_among, token_of};
+use crate::{Dialect, Piece, TokenKind};
 use characters::Class;
 
-fn square(rest: &[u8], bracket: &[u8], dialect: Dialect) -> Taken
+fn square(rest: &[u8], bracket: &[u8], dialect: Dialect) -> Option<usize>
     ensures { result ≡ in_postgre_sql dialect (literal bracket.now done) rest.now }
 {
-    match dialect {
-        Dialect::Generic => Taken::Fails,
-        Dialect::PostgreSql => exactly(rest, bracket),
-        Dialect::SQLServer => Taken::Fails,
+    if dialect == Dialect::PostgreSql {
+        return exactly(rest, bracket);
     }
+    None
+}
+
+fn opening(rest: &[u8]) -> Option<usize>
+    ensures { result ≡ or (literal (bytes "(") done rest.now) (caseless (bytes "CASE") end_of_word rest.now) }
+{
+    exactly(rest, b"(").or_else(|| caseless_word(rest, b"CASE"))
 }
 
 #[inline(always)]
-fn try_open_paren(rest: &[u8], dialect: Dialect) -> Recognised
+fn try_open_paren(rest: &[u8], dialect: Dialect) -> Option<Piece>
     ensures { result ≡ get_open_paren_token dialect rest.now }
 {
     if stands_at(rest, 0, b'[') {
         return token_of(TokenKind::OpenParen, square(rest, b"[", dialect));
     }
-    token_of(
-        TokenKind::OpenParen,
-        first_of(exactly(rest, b"("), caseless_word(rest, b"CASE")),
-    )
+    token_of(TokenKind::OpenParen, opening(rest))
 }
 
 #[inline(always)]
-pub fn get_open_paren_token(rest: &[u8], dialect: Dialect) -> Recognised
+pub fn get_open_paren_token(rest: &[u8], dialect: Dialect) -> Option<Piece>
     ensures { result ≡ get_open_paren_token dialect rest.now }
 {
     if starts_among(rest, b"([Cc") {
         return try_open_paren(rest, dialect);
     }
-    Recognised::Nothing
+    None
 }
 
 // Whitespace, one character at least, and then a word in capitals.
-fn blanks_then_word(rest: &[u8], word: &[u8]) -> Taken
+fn blanks_then_word(rest: &[u8], word: &[u8]) -> Option<usize>
     ensures { result ≡ blanks (caseless word.now end_of_word) rest.now }
 {
     let n = characters::run_of(rest, Class::Whitespace);
     if n == 0 {
-        return Taken::Fails;
+        return None;
     }
-    n_more(n, caseless_word(&rest[n..], word))
+    Some(n + caseless_word(&rest[n..], word)?)
 }
 
-fn end_case(rest: &[u8], end: &[u8], case: &[u8]) -> Taken
-    ensures { result ≡ caseless end.now (blanks (caseless case.now end_of_word)) rest.now }
+fn end_case(rest: &[u8]) -> Option<usize>
+    ensures { result ≡ caseless (bytes "END") (blanks (caseless (bytes "CASE") end_of_word)) rest.now }
 {
-    if is_spelled_caseless(rest, end) {
-        let n = end.len();
-        return n_more(n, blanks_then_word(&rest[n..], case));
-    }
-    Taken::Fails
+    let behind = behind_caseless(rest, b"END")?;
+    Some(3 + blanks_then_word(behind, b"CASE")?)
+}
+
+fn closing(rest: &[u8]) -> Option<usize>
+    ensures { result ≡ or (literal (bytes ")") done rest.now) (or (caseless (bytes "END") (blanks (caseless (bytes "CASE") end_of_word)) rest.now) (caseless (bytes "END") end_of_word rest.now)) }
+{
+    exactly(rest, b")")
+        .or_else(|| end_case(rest))
+        .or_else(|| caseless_word(rest, b"END"))
 }
 
 #[inline(always)]
-fn try_close_paren(rest: &[u8], dialect: Dialect) -> Recognised
+fn try_close_paren(rest: &[u8], dialect: Dialect) -> Option<Piece>
     ensures { result ≡ get_close_paren_token dialect rest.now }
 {
     if stands_at(rest, 0, b']') {
         return token_of(TokenKind::CloseParen, square(rest, b"]", dialect));
     }
-    let words = first_of(end_case(rest, b"END", b"CASE"), caseless_word(rest, b"END"));
-    token_of(TokenKind::CloseParen, first_of(exactly(rest, b")"), words))
+    token_of(TokenKind::CloseParen, closing(rest))
 }
 
 #[inline(always)]
-pub fn get_close_paren_token(rest: &[u8], dialect: Dialect) -> Recognised
+pub fn get_close_paren_token(rest: &[u8], dialect: Dialect) -> Option<Piece>
     ensures { result ≡ get_close_paren_token dialect rest.now }
 {
     if starts_among(rest, b")]Ee") {
         return try_close_paren(rest, dialect);
     }
-    Recognised::Nothing
+    None
 }

@@ -1,326 +1,224 @@
 // The four placeholders and their keys.
-ghost use Rattle.std.specs.Prelude.{◌≡◌, false, not, cond, ◌&&◌, ◌-◌, ◌≤◌, length};
+ghost use Rattle.std.specs.Prelude.{◌≡◌, false, not, cond, ◌&&◌, ◌-◌, ◌≤◌, length, None};
 ghost use Rattle.recognisers.specs.Taking.{one, literal, contains, starts_with};
 ghost use Rattle.recognisers.specs.Text.{byte};
 ghost use Rattle.recognisers.specs.Pieces.{alt};
-ghost use Rattle.recognisers.specs.declared.Recognised.TheVariants.{Nothing};
 ghost use Rattle.recognisers.specs.Strings.{placeholder_string_taken};
 ghost use Rattle.recognisers.specs.Placeholder.{number_of, indexed, indexed_key, indexed_taken, get_indexed_placeholder_token, placeholder_name, ident_taken, get_ident_named_placeholder_token, through_brace, braced_text, braced_taken, get_braced_named_placeholder_token, has_escape, string_key, string_named_taken, get_string_named_placeholder_token, get_placeholder_token};
 ghost use Rattle.recognisers.specs.Inner.Known.{Truthful};
 
 use crate::escaped_quotes::string_named_pairs;
-use crate::hints::BRACE;
+use crate::hints::Hints;
 use crate::numbers::marked_digits;
-use crate::scan::{
-    at_least, exactly, first_of, is_spelled, n_more, pair_stands_at, stands_at, starts_among,
-};
+use crate::scan::{at_least, behind_mark, exactly, stands_at, starts_among};
 use crate::strings::placeholder_string_taken;
-use crate::{Dialect, Key, Number, Piece, Recognised, Taken, TokenKind};
+use crate::{Dialect, Key, Piece, TokenKind};
 use characters::Class;
 
-fn digit_of(b: u8) -> u64
-    ensures { result ≡ b - 48 }
-{
-    if b < 48 { 0 } else { (b - 48) as u64 }
-}
-
 // The number that the digits spell, where it fits 64 bits.
-fn number_of(digits: &[u8]) -> Number
+fn number_of(digits: &[u8]) -> Option<u64>
     ensures { result ≡ number_of digits.now }
 {
     let mut n: u64 = 0;
-    let mut i = 0;
-    while i < digits.len() {
-        let d = digit_of(digits[i]);
-        if n <= (18446744073709551615 - d) / 10 {
-            n = n * 10 + d;
-            i += 1;
-        } else {
-            return Number::Overflows;
-        }
+    for d in digits {
+        n = n
+            .checked_mul(10)?
+            .checked_add(u64::from(d.saturating_sub(b'0')))?;
     }
-    Number::Is(n)
+    Some(n)
 }
 
-fn indexed_by(from_one: bool, number: Number) -> Key
-    ensures { result ≡ indexed from_one number }
-{
-    match number {
-        Number::Is(n) => {
-            if from_one {
-                Key::OneIndexed(n)
-            } else {
-                Key::ZeroIndexed(n)
-            }
-        }
-        Number::Overflows => Key::None,
-    }
-}
-
-fn indexed_key(rest: &[u8], n: usize) -> Key
+fn indexed_key(rest: &[u8], n: usize) -> Option<Key>
     requires { n ≤ length rest.now }
     ensures { result ≡ indexed_key rest.now n }
 {
     if n <= 1 {
-        return Key::None;
+        return None;
     }
-    indexed_by(stands_at(rest, 0, b'$'), number_of(&rest[1..n]))
-}
-
-fn indexed_taken(rest: &[u8]) -> Taken
-    ensures { result ≡ indexed_taken rest.now }
-{
-    first_of(marked_digits(rest, b"?$"), exactly(rest, b"?"))
+    let number = number_of(&rest[1..n])?;
+    if stands_at(rest, 0, b'$') {
+        return Some(Key::OneIndexed(number));
+    }
+    Some(Key::ZeroIndexed(number))
 }
 
 #[inline(always)]
-pub fn get_indexed_placeholder_token(rest: &[u8]) -> Recognised
+fn indexed_taken(rest: &[u8]) -> Option<usize>
+    ensures { result ≡ indexed_taken rest.now }
+{
+    marked_digits(rest, b"?$").or_else(|| exactly(rest, b"?"))
+}
+
+#[inline(always)]
+pub fn get_indexed_placeholder_token(rest: &[u8]) -> Option<Piece>
     ensures { result ≡ get_indexed_placeholder_token rest.now }
 {
-    let part = indexed_taken(rest);
-    match part {
-        Taken::Bytes(n) => {
-            let key = indexed_key(rest, n);
-            Recognised::Token(Piece {
-                kind: TokenKind::Placeholder,
-                len: n,
-                alias: n,
-                key: key,
-                escaped: 0,
-            })
-        }
-        Taken::Fails => Recognised::Nothing,
-    }
+    let n = indexed_taken(rest)?;
+    Some(Piece {
+        key: indexed_key(rest, n),
+        ..Piece::of(TokenKind::Placeholder, n)
+    })
 }
 
-fn less(n: usize, k: usize) -> usize
-    ensures { result ≡ n - k }
-{
-    if n < k { 0 } else { n - k }
-}
-
-fn placeholder_name(rest: &[u8]) -> Taken
+#[inline(always)]
+fn placeholder_name(rest: &[u8]) -> Option<usize>
     ensures { result ≡ placeholder_name rest.now }
 {
     at_least(1, characters::run_of(rest, Class::PlaceholderName))
 }
 
-fn marked_name(rest: &[u8], marks: &[u8]) -> Taken
-    ensures { result ≡ one (contains marks.now) placeholder_name rest.now }
-{
-    if starts_among(rest, marks) {
-        return n_more(1, placeholder_name(&rest[1..]));
-    }
-    Taken::Fails
-}
-
-fn ident_taken(rest: &[u8]) -> Taken
+#[inline(always)]
+fn ident_taken(rest: &[u8]) -> Option<usize>
     ensures { result ≡ ident_taken rest.now }
 {
-    marked_name(rest, b"@:$")
+    let behind = behind_mark(rest, b"@:$")?;
+    Some(1 + placeholder_name(behind)?)
 }
 
 #[inline(always)]
-pub fn get_ident_named_placeholder_token(rest: &[u8]) -> Recognised
+pub fn get_ident_named_placeholder_token(rest: &[u8]) -> Option<Piece>
     ensures { result ≡ get_ident_named_placeholder_token rest.now }
 {
-    let part = ident_taken(rest);
-    match part {
-        Taken::Bytes(n) => {
-            let len = less(n, 1);
-            Recognised::Token(Piece {
-                kind: TokenKind::Placeholder,
-                len: n,
-                alias: n,
-                key: Key::Named { start: 1, len: len },
-                escaped: 0,
-            })
-        }
-        Taken::Fails => Recognised::Nothing,
-    }
+    let n = ident_taken(rest)?;
+    Some(Piece {
+        key: Some(Key::Named {
+            start: 1,
+            len: n.saturating_sub(1),
+        }),
+        ..Piece::of(TokenKind::Placeholder, n)
+    })
 }
 
-pub fn through_brace(rest: &[u8]) -> Taken
+pub fn through_brace(rest: &[u8]) -> Option<usize>
     ensures { result ≡ through_brace rest.now }
 {
-    let mut i = 0;
-    while i < rest.len() {
-        if rest[i] == b'}' {
-            return Taken::Bytes(i + 1);
-        }
-        i += 1;
-    }
-    Taken::Fails
+    Some(rest.iter().position(|b| *b == b'}')? + 1)
 }
 
-fn braced_text(rest: &[u8], hints: &[usize]) -> Taken
+fn braced_text(rest: &[u8], hints: &Hints) -> Option<usize>
     requires { Truthful hints.now rest.now }
     ensures { result ≡ braced_text rest.now }
 {
     if stands_at(rest, 0, b'}') {
-        return Taken::Fails;
+        return None;
     }
-    if rest.len() <= hints[BRACE] {
-        return Taken::Fails;
+    if rest.len() <= hints.brace {
+        return None;
     }
     through_brace(rest)
 }
 
-fn braced_after(rest: &[u8], brace: &[u8], hints: &[usize]) -> Taken
-    requires { Truthful hints.now rest.now }
-    ensures { result ≡ literal brace.now braced_text rest.now }
-{
-    if is_spelled(rest, brace) {
-        let n = brace.len();
-        return n_more(n, braced_text(&rest[n..], hints));
-    }
-    Taken::Fails
-}
-
-fn braced_taken(rest: &[u8], hints: &[usize]) -> Taken
+fn braced_taken(rest: &[u8], hints: &Hints) -> Option<usize>
     requires { Truthful hints.now rest.now }
     ensures { result ≡ braced_taken rest.now }
 {
-    braced_after(rest, b"{", hints)
+    let behind = rest.strip_prefix(b"{")?;
+    Some(1 + braced_text(behind, hints)?)
 }
 
 #[inline(always)]
-pub fn get_braced_named_placeholder_token(rest: &[u8], hints: &[usize]) -> Recognised
+pub fn get_braced_named_placeholder_token(rest: &[u8], hints: &Hints) -> Option<Piece>
     requires { Truthful hints.now rest.now }
     ensures { result ≡ get_braced_named_placeholder_token rest.now }
 {
-    let part = braced_taken(rest, hints);
-    match part {
-        Taken::Bytes(n) => {
-            let len = less(n, 2);
-            Recognised::Token(Piece {
-                kind: TokenKind::Placeholder,
-                len: n,
-                alias: n,
-                key: Key::Named { start: 1, len: len },
-                escaped: 0,
-            })
-        }
-        Taken::Fails => Recognised::Nothing,
-    }
+    let n = braced_taken(rest, hints)?;
+    Some(Piece {
+        key: Some(Key::Named {
+            start: 1,
+            len: n.saturating_sub(2),
+        }),
+        ..Piece::of(TokenKind::Placeholder, n)
+    })
 }
 
 // A backslash stands directly before the quote.
 fn has_escape(text: &[u8], quote: u8) -> bool
     ensures { result ≡ has_escape quote text.now }
 {
-    let mut i = 0;
-    while i < text.len() {
-        if pair_stands_at(text, i, b'\\', quote) {
-            return true;
-        }
-        i += 1;
-    }
-    false
+    let mut pairs = text.iter().zip(text.iter().skip(1));
+    pairs.any(|(b, next)| *b == b'\\' && *next == quote)
 }
 
-fn string_key(rest: &[u8], n: usize) -> Key
+fn string_key(rest: &[u8], n: usize) -> Option<Key>
     requires { n ≤ length rest.now }
     ensures { result ≡ string_key rest.now n }
 {
     if n < 3 {
-        return Key::Named { start: 2, len: 0 };
+        return Some(Key::Named { start: 2, len: 0 });
     }
     let end = n - 1;
     let quote = rest[end];
     if has_escape(&rest[2..end], quote) {
-        return Key::Escaped {
+        return Some(Key::Escaped {
             start: 2,
             len: n - 3,
-        };
+        });
     }
-    Key::Named {
+    Some(Key::Named {
         start: 2,
         len: n - 3,
-    }
+    })
 }
 
-fn marked_string(rest: &[u8], marks: &[u8], dialect: Dialect, hints: &[usize]) -> Taken
-    requires { Truthful hints.now rest.now }
-    ensures { result ≡ one (contains marks.now) (placeholder_string_taken dialect) rest.now }
-{
-    if starts_among(rest, marks) {
-        return n_more(1, placeholder_string_taken(&rest[1..], dialect, hints));
-    }
-    Taken::Fails
-}
-
-fn string_named_taken(rest: &[u8], dialect: Dialect, hints: &[usize]) -> Taken
+fn string_named_taken(rest: &[u8], dialect: Dialect, hints: &Hints) -> Option<usize>
     requires { Truthful hints.now rest.now }
     ensures { result ≡ string_named_taken dialect rest.now }
 {
-    marked_string(rest, b"@:", dialect, hints)
+    let behind = behind_mark(rest, b"@:")?;
+    Some(1 + placeholder_string_taken(behind, dialect, hints)?)
 }
 
 #[inline(always)]
 pub fn get_string_named_placeholder_token(
     rest: &[u8],
     dialect: Dialect,
-    hints: &[usize],
-) -> Recognised
+    hints: &Hints,
+) -> Option<Piece>
     requires { Truthful hints.now rest.now }
     ensures { result ≡ get_string_named_placeholder_token dialect rest.now }
 {
-    let part = string_named_taken(rest, dialect, hints);
-    match part {
-        Taken::Bytes(n) => {
-            let key = string_key(rest, n);
-            let escaped = string_named_pairs(&rest[..n]);
-            Recognised::Token(Piece {
-                kind: TokenKind::Placeholder,
-                len: n,
-                alias: n,
-                key: key,
-                escaped: escaped,
-            })
-        }
-        Taken::Fails => Recognised::Nothing,
-    }
+    let n = string_named_taken(rest, dialect, hints)?;
+    Some(Piece {
+        key: string_key(rest, n),
+        escaped: string_named_pairs(&rest[..n]),
+        ..Piece::of(TokenKind::Placeholder, n)
+    })
 }
 
 // An index, where it comes before a name: always with places first, else behind `?`, where no name can stand.
-fn index_before_name(rest: &[u8], named: bool) -> Recognised
-    ensures { result ≡ cond (named && not (starts_with (byte "?") rest.now)) Nothing (get_indexed_placeholder_token rest.now) }
+fn index_before_name(rest: &[u8], named: bool) -> Option<Piece>
+    ensures { result ≡ cond (named && not (starts_with (byte "?") rest.now)) None (get_indexed_placeholder_token rest.now) }
 {
     if named {
         if stands_at(rest, 0, b'?') {
             return get_indexed_placeholder_token(rest);
         }
-        return Recognised::Nothing;
+        return None;
     }
     get_indexed_placeholder_token(rest)
 }
 
-fn name_or_string(rest: &[u8], dialect: Dialect, hints: &[usize]) -> Recognised
+fn name_or_string(rest: &[u8], dialect: Dialect, hints: &Hints) -> Option<Piece>
     requires { Truthful hints.now rest.now }
     ensures { result ≡ alt (get_ident_named_placeholder_token rest.now) (get_string_named_placeholder_token dialect rest.now) }
 {
-    match get_ident_named_placeholder_token(rest) {
-        Recognised::Token(piece) => Recognised::Token(piece),
-        Recognised::Nothing => get_string_named_placeholder_token(rest, dialect, hints),
-    }
+    get_ident_named_placeholder_token(rest).or_else(|| get_string_named_placeholder_token(
+        rest, dialect, hints,
+    ))
 }
 
 // Each alternative is tried only where those before it recognise nothing: `$1$1..` would be one long name.
 #[inline(always)]
-fn without_braces(rest: &[u8], named: bool, dialect: Dialect, hints: &[usize]) -> Recognised
+fn without_braces(rest: &[u8], named: bool, dialect: Dialect, hints: &Hints) -> Option<Piece>
     requires truthful { Truthful hints.now rest.now }
     requires rest_value { starts_with (byte "{") rest.now ≡ false }
     ensures { result ≡ get_placeholder_token named dialect rest.now }
 {
-    match index_before_name(rest, named) {
-        Recognised::Token(piece) => Recognised::Token(piece),
-        Recognised::Nothing => name_or_string(rest, dialect, hints),
-    }
+    index_before_name(rest, named).or_else(|| name_or_string(rest, dialect, hints))
 }
 
 #[inline(always)]
-fn try_placeholder(rest: &[u8], named: bool, dialect: Dialect, hints: &[usize]) -> Recognised
+fn try_placeholder(rest: &[u8], named: bool, dialect: Dialect, hints: &Hints) -> Option<Piece>
     requires { Truthful hints.now rest.now }
     ensures { result ≡ get_placeholder_token named dialect rest.now }
 {
@@ -335,13 +233,13 @@ pub fn get_placeholder_token(
     rest: &[u8],
     named: bool,
     dialect: Dialect,
-    hints: &[usize],
-) -> Recognised
+    hints: &Hints,
+) -> Option<Piece>
     requires { Truthful hints.now rest.now }
     ensures { result ≡ get_placeholder_token named dialect rest.now }
 {
     if starts_among(rest, b"?@:${") {
         return try_placeholder(rest, named, dialect, hints);
     }
-    Recognised::Nothing
+    None
 }

@@ -8,11 +8,11 @@ ghost use Rattle.characters.specs.Runs.{run};
 ghost use Rattle.recognisers.specs.Words.{get_whitespace_token, is_operator, get_operator_token, get_word_token, get_any_other_char};
 
 use crate::scan::{at_least, is_among, stands_at, starts_among, token_of};
-use crate::{Recognised, TokenKind};
+use crate::{Piece, TokenKind};
 use characters::Class;
 
 #[inline(always)]
-fn try_whitespace(rest: &[u8]) -> Recognised
+fn try_whitespace(rest: &[u8]) -> Option<Piece>
     ensures { result ≡ get_whitespace_token rest.now }
 {
     token_of(
@@ -23,13 +23,13 @@ fn try_whitespace(rest: &[u8]) -> Recognised
 
 // No other byte begins whitespace; C0, E0 and F0 begin none in a well-formed text.
 #[inline(always)]
-pub fn get_whitespace_token(rest: &[u8]) -> Recognised
+pub fn get_whitespace_token(rest: &[u8]) -> Option<Piece>
     ensures { result ≡ get_whitespace_token rest.now }
 {
     if starts_among(rest, b"\x09\x0A\x0B\x0C\x0D \xC0\xC2\xE0\xE1\xE2\xE3\xF0") {
         return try_whitespace(rest);
     }
-    Recognised::Nothing
+    None
 }
 
 // In two halves: eight bytes are one test.
@@ -42,21 +42,8 @@ fn is_operator(b: u8) -> bool
 fn count_operators(rest: &[u8]) -> usize
     ensures { result ≡ count is_operator rest.now }
 {
-    let mut i = 0;
-    while i < rest.len() {
-        if is_operator(rest[i]) {
-            i += 1;
-        } else {
-            return i;
-        }
-    }
-    i
-}
-
-fn at_most_five(n: usize) -> usize
-    ensures { result ≡ min n 5 }
-{
-    if n < 5 { n } else { 5 }
+    let end = rest.iter().position(|b| !is_operator(*b));
+    end.unwrap_or(rest.len())
 }
 
 // Five bytes are enough to look at.
@@ -64,12 +51,11 @@ fn at_most_five(n: usize) -> usize
 fn few_operators(rest: &[u8]) -> usize
     ensures { result ≡ min (count is_operator rest.now) 5 }
 {
-    let n = at_most_five(rest.len());
-    count_operators(&rest[..n])
+    count_operators(&rest[..rest.len().min(5)])
 }
 
 #[inline(always)]
-pub fn get_operator_token(rest: &[u8]) -> Recognised
+pub fn get_operator_token(rest: &[u8]) -> Option<Piece>
     ensures { result ≡ get_operator_token rest.now }
 {
     token_of(TokenKind::Operator, at_least(2, few_operators(rest)))
@@ -92,7 +78,7 @@ fn word_end(rest: &[u8], word: usize) -> usize
 
 // `word` is what `word_length` tells of the rest.
 #[inline(always)]
-pub fn get_word_token(rest: &[u8], word: usize) -> Recognised
+pub fn get_word_token(rest: &[u8], word: usize) -> Option<Piece>
     requires { word ≡ word_length rest.now }
     ensures { result ≡ get_word_token rest.now }
 {
@@ -107,11 +93,11 @@ fn is_line_break(rest: &[u8]) -> bool
 
 // One character, but no CR or LF.
 #[inline(always)]
-pub fn get_any_other_char(rest: &[u8]) -> Recognised
+pub fn get_any_other_char(rest: &[u8]) -> Option<Piece>
     ensures { result ≡ get_any_other_char rest.now }
 {
     if is_line_break(rest) {
-        return Recognised::Nothing;
+        return None;
     }
     let c = characters::character_at(rest, 0);
     token_of(TokenKind::Operator, at_least(1, c.len))

@@ -1,25 +1,21 @@
-use Rattle.recognisers.specs.Taking.{typed}
+use Rattle.std.proofs.Common.{rules}
 use Rattle.recognisers.specs.Comment.{till_line_ending}
-use Rattle.recognisers.proofs.Spelling.{word_fits, word_then, word_not}
-use Rattle.recognisers.proofs.TakenInside.{fits_more}
 use Rattle.recognisers.proofs.CommentLoops.{line_inside}
-use Rattle.recognisers.proofs.Unclosed.{truthful_part}
+use Rattle.recognisers.proofs.Unclosed.{truthful_drop}
+use Rattle.recognisers.proofs.Preceded.{front_fits, literal_none, literal_fails, literal_then}
 use Rattle.recognisers.proofs.comment.line_comment.Goals as goal
 
-pub slice_bounds-till_line_ending_known-count : goal.slice_bounds-till_line_ending_known-count
-slice_bounds-till_line_ending_known-count c = search (word_fits typed till_line_ending)
+pub returns-in_err-behind : goal.returns-in_err-behind
+returns-in_err-behind c = search (rules, literal_none till_line_ending)
 
-pub slice_bounds-till_line_ending_known-start : goal.slice_bounds-till_line_ending_known-start
-slice_bounds-till_line_ending_known-start c = search (word_fits typed till_line_ending)
+pub returns-in_err-till_line_ending_known : goal.returns-in_err-till_line_ending_known
+returns-in_err-till_line_ending_known c = search (rules, literal_fails till_line_ending)
 
-pub till_line_ending_known-requires : goal.till_line_ending_known-requires
-till_line_ending_known-requires c = search truthful_part
-
-pub n_more-requires : goal.n_more-requires
-n_more-requires c = search (fits_more till_line_ending line_inside, word_fits typed till_line_ending)
-
-pub returns-then-is_spelled : goal.returns-then-is_spelled
-returns-then-is_spelled c = search (word_then typed till_line_ending)
+pub overflow_add-result : goal.overflow_add-result
+overflow_add-result c = search (front_fits till_line_ending line_inside, c.in_ok-behind.ensures, c.in_ok-till_line_ending_known.was)
 
 pub returns : goal.returns
-returns c = search (word_not typed till_line_ending)
+returns c = search (rules, literal_then till_line_ending)
+
+pub till_line_ending_known-requires : goal.till_line_ending_known-requires
+till_line_ending_known-requires c = truthful_drop _ _ _ _ c.in_ok-behind.ensures.cases.1 c.requires

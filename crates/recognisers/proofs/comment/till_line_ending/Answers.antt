@@ -1,17 +1,12 @@
-use Rattle.recognisers.proofs.CommentLoops.{line_feed, carriage_return, lone_return, line_on, line_end}
+use Rattle.std.proofs.Common.{rules}
+use Rattle.recognisers.proofs.CommentLoops.{line_end, line_refused, line_taken}
 use Rattle.recognisers.proofs.comment.till_line_ending.Goals as goal
 
-pub returns-then-b-eq10 : goal.returns-then-b-eq10
-returns-then-b-eq10 c = search line_feed
+pub returns-in_default : goal.returns-in_default
+returns-in_default c = search (rules, line_end)
 
-pub returns-then-stands_at : goal.returns-then-stands_at
-returns-then-stands_at c = search carriage_return
-
-pub returns-then-b-eq13 : goal.returns-then-b-eq13
-returns-then-b-eq13 c = search lone_return
-
-pub loop-i-preserved : goal.loop-i-preserved
-loop-i-preserved c = search line_on
+pub returns-then-is_lone_return : goal.returns-then-is_lone_return
+returns-then-is_lone_return c = search (rules, line_refused)
 
 pub returns : goal.returns
-returns c = search line_end
+returns c = search (rules, line_taken)

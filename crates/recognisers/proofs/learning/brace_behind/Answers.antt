@@ -1,5 +1,5 @@
 use Rattle.recognisers.proofs.Unclosed.{brace_failed}
 use Rattle.recognisers.proofs.learning.brace_behind.Goals as goal
 
-pub returns-in-Fails : goal.returns-in-Fails
-returns-in-Fails c = search brace_failed
+pub returns-in-None : goal.returns-in-None
+returns-in-None c = search brace_failed

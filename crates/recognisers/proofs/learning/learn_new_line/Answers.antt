@@ -1,12 +1,6 @@
 use Rattle.std.proofs.Common.{rules}
-use Rattle.recognisers.proofs.Unclosed.{hint_inside, line_learnt}
+use Rattle.recognisers.proofs.Unclosed.{line_learnt}
 use Rattle.recognisers.proofs.learning.learn_new_line.Goals as goal
 
-pub bounds-hints-4 : goal.bounds-hints-4
-bounds-hints-4 c = search (rules, hint_inside)
-
-pub bounds-hints-5 : goal.bounds-hints-5
-bounds-hints-5 c = search (rules, hint_inside)
-
 pub returns : goal.returns
-returns c = search line_learnt
+returns c = search (rules, line_learnt)

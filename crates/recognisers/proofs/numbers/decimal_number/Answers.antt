@@ -1,25 +1,21 @@
-use Rattle.recognisers.specs.Text.{bytes}
-use Rattle.recognisers.proofs.Digits.{fraction_inside}
-use Rattle.recognisers.specs.Taking.{typed, spelled, digit0, done}
-use Rattle.recognisers.specs.Number.{decimal_number}
-use Rattle.recognisers.proofs.TakenInside.{done_inside}
-use Rattle.recognisers.proofs.Digits.{digits_fit, digit1_none, digit1_then}
-use Rattle.recognisers.proofs.TakenInside.{fits_more}
+use Rattle.std.proofs.Common.{rules}
+use Rattle.recognisers.proofs.Unsigned.{digits_fit, decimal_none, decimal_fails, decimal_then, decimal_fits}
 use Rattle.recognisers.proofs.numbers.decimal_number.Goals as goal
 
-pub returns-then-n-eq0 : goal.returns-then-n-eq0
-unfolding decimal_number
-returns-then-n-eq0 c = search (digit1_none (spelled typed (bytes ".") (digit0 done)))
+pub returns-in_err-whole : goal.returns-in_err-whole
+returns-in_err-whole c = search (rules, decimal_none)
 
-pub slice_bounds-point_fraction-count : goal.slice_bounds-point_fraction-count
-slice_bounds-point_fraction-count c = search (digits_fit (spelled typed (bytes ".") (digit0 done)))
+pub slice_bounds-strip_prefix-count : goal.slice_bounds-strip_prefix-count
+slice_bounds-strip_prefix-count c = search (digits_fit, c.in_ok-whole.was)
 
-pub slice_bounds-point_fraction-start : goal.slice_bounds-point_fraction-start
-slice_bounds-point_fraction-start c = search (digits_fit (spelled typed (bytes ".") (digit0 done)))
+pub slice_bounds-strip_prefix-start : goal.slice_bounds-strip_prefix-start
+slice_bounds-strip_prefix-start c = search (digits_fit, c.in_ok-whole.was)
 
-pub n_more-requires : goal.n_more-requires
-n_more-requires c = search (fits_more (spelled typed (bytes ".") (digit0 done)) (fraction_inside done done_inside), digits_fit (spelled typed (bytes ".") (digit0 done)))
+pub returns-in_err-fraction : goal.returns-in_err-fraction
+returns-in_err-fraction c = search (rules, decimal_fails)
+
+pub overflow_add-result-2 : goal.overflow_add-result-2
+overflow_add-result-2 c = search (decimal_fits, c.in_ok-whole.was, c.in_ok-fraction.ensures)
 
 pub returns : goal.returns
-unfolding decimal_number
-returns c = search (digit1_then (spelled typed (bytes ".") (digit0 done)))
+returns c = search (rules, decimal_then)

@@ -1,19 +1,17 @@
-use Rattle.recognisers.proofs.Digits.{marked_fits, marked_then, marked_not, digits_inside}
+use Rattle.std.proofs.Common.{rules}
 use Rattle.recognisers.specs.Taking.{done, digit1}
-use Rattle.recognisers.proofs.TakenInside.{fits_more}
+use Rattle.recognisers.proofs.Digits.{digits_inside}
+use Rattle.recognisers.proofs.Preceded.{front_fits, marked_none, marked_fails, marked_then}
 use Rattle.recognisers.proofs.numbers.marked_digits.Goals as goal
 
-pub slice_bounds-digits-count : goal.slice_bounds-digits-count
-slice_bounds-digits-count c = search (marked_fits (digit1 done))
+pub returns-in_err-behind : goal.returns-in_err-behind
+returns-in_err-behind c = search (rules, marked_none (digit1 done))
 
-pub slice_bounds-digits-start : goal.slice_bounds-digits-start
-slice_bounds-digits-start c = search (marked_fits (digit1 done))
+pub returns-in_err-digits : goal.returns-in_err-digits
+returns-in_err-digits c = search (rules, marked_fails (digit1 done))
 
-pub n_more-requires : goal.n_more-requires
-n_more-requires c = search (fits_more (digit1 done) digits_inside, marked_fits (digit1 done))
-
-pub returns-then-starts_among : goal.returns-then-starts_among
-returns-then-starts_among c = search (marked_then (digit1 done))
+pub overflow_add-result : goal.overflow_add-result
+overflow_add-result c = search (front_fits (digit1 done) digits_inside, c.in_ok-behind.ensures, c.in_ok-digits.was)
 
 pub returns : goal.returns
-returns c = search (marked_not (digit1 done))
+returns c = search (rules, marked_then (digit1 done))

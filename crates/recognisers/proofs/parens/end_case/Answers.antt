@@ -1,19 +1,18 @@
-use Rattle.recognisers.proofs.Blanks.{end_case_yes, end_case_no, end_case_fits}
-use Rattle.recognisers.specs.Taking.{capital, done}
-use Rattle.recognisers.proofs.Spelling.{word_fits}
+use Rattle.std.proofs.Common.{rules}
+use Rattle.recognisers.specs.Text.{bytes}
+use Rattle.recognisers.specs.Taking.{capital, spelled, blanks, end_of_word}
+use Rattle.recognisers.proofs.Blanks.{blanks_inside, word_inside}
+use Rattle.recognisers.proofs.Preceded.{front_fits, spelled_none, spelled_fails, spelled_then}
 use Rattle.recognisers.proofs.parens.end_case.Goals as goal
 
-pub slice_bounds-blanks_then_word-count : goal.slice_bounds-blanks_then_word-count
-slice_bounds-blanks_then_word-count c = search (word_fits capital done)
+pub returns-in_err-behind : goal.returns-in_err-behind
+returns-in_err-behind c = search (rules, spelled_none (blanks (spelled capital (bytes "CASE") end_of_word)) capital)
 
-pub slice_bounds-blanks_then_word-start : goal.slice_bounds-blanks_then_word-start
-slice_bounds-blanks_then_word-start c = search (word_fits capital done)
+pub returns-in_err-blanks_then_word : goal.returns-in_err-blanks_then_word
+returns-in_err-blanks_then_word c = search (rules, spelled_fails (blanks (spelled capital (bytes "CASE") end_of_word)) capital)
 
-pub n_more-requires : goal.n_more-requires
-n_more-requires c = search end_case_fits
-
-pub returns-then-is_spelled_caseless : goal.returns-then-is_spelled_caseless
-returns-then-is_spelled_caseless c = search end_case_yes
+pub overflow_add-result : goal.overflow_add-result
+overflow_add-result c = search (front_fits (blanks (spelled capital (bytes "CASE") end_of_word)) (blanks_inside _ (word_inside (bytes "CASE"))), c.in_ok-behind.ensures, c.in_ok-blanks_then_word.was)
 
 pub returns : goal.returns
-returns c = search end_case_no
+returns c = search (rules, spelled_then (blanks (spelled capital (bytes "CASE") end_of_word)) capital)

@@ -1,13 +1,9 @@
-use Rattle.std.proofs.Common.{rules}
 use Rattle.recognisers.proofs.PlaceholderLaws.{brace_first, brace_later}
-use Rattle.recognisers.proofs.Unclosed.{hint_inside, brace_unclosed}
+use Rattle.recognisers.proofs.Unclosed.{brace_unclosed}
 use Rattle.recognisers.proofs.placeholders.braced_text.Goals as goal
 
 pub returns-then-stands_at : goal.returns-then-stands_at
 returns-then-stands_at c = search brace_first
-
-pub bounds-hints-3 : goal.bounds-hints-3
-bounds-hints-3 c = search (rules, hint_inside)
 
 pub returns-then-rest-hints : goal.returns-then-rest-hints
 returns-then-rest-hints c = search brace_unclosed

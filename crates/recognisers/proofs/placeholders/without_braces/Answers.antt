@@ -1,8 +1,6 @@
-use Rattle.recognisers.proofs.PlaceholderOrder.{index_found, name_found}
+use Rattle.std.proofs.Common.{rules}
+use Rattle.recognisers.proofs.PlaceholderOrder.{ordered}
 use Rattle.recognisers.proofs.placeholders.without_braces.Goals as goal
 
-pub returns-in-Token : goal.returns-in-Token
-returns-in-Token c = search index_found
-
-pub returns-in-Nothing : goal.returns-in-Nothing
-returns-in-Nothing c = search name_found
+pub returns : goal.returns
+returns c = ordered _ _ _ c.requires.rest_value _ c.index_before_name.ensures _ (search rules)

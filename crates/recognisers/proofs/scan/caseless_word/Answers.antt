@@ -1,19 +1,17 @@
+use Rattle.std.proofs.Common.{rules}
 use Rattle.recognisers.specs.Taking.{capital, end_of_word}
-use Rattle.recognisers.proofs.Spelling.{word_fits, word_then, word_not}
-use Rattle.recognisers.proofs.TakenInside.{fits_more, end_of_word_inside}
+use Rattle.recognisers.proofs.TakenInside.{end_of_word_inside}
+use Rattle.recognisers.proofs.Preceded.{front_fits, spelled_none, spelled_fails, spelled_then}
 use Rattle.recognisers.proofs.scan.caseless_word.Goals as goal
 
-pub slice_bounds-end_of_word-count : goal.slice_bounds-end_of_word-count
-slice_bounds-end_of_word-count c = search (word_fits capital end_of_word)
+pub returns-in_err-behind : goal.returns-in_err-behind
+returns-in_err-behind c = search (rules, spelled_none end_of_word capital)
 
-pub slice_bounds-end_of_word-start : goal.slice_bounds-end_of_word-start
-slice_bounds-end_of_word-start c = search (word_fits capital end_of_word)
+pub returns-in_err-end_of_word : goal.returns-in_err-end_of_word
+returns-in_err-end_of_word c = search (rules, spelled_fails end_of_word capital)
 
-pub n_more-requires : goal.n_more-requires
-n_more-requires c = search (fits_more end_of_word end_of_word_inside, word_fits capital end_of_word)
-
-pub returns-then-is_spelled_caseless : goal.returns-then-is_spelled_caseless
-returns-then-is_spelled_caseless c = search (word_then capital end_of_word)
+pub overflow_add-result : goal.overflow_add-result
+overflow_add-result c = search (front_fits end_of_word end_of_word_inside, c.in_ok-behind.ensures, c.in_ok-end_of_word.was)
 
 pub returns : goal.returns
-returns c = search (word_not capital end_of_word)
+returns c = search (rules, spelled_then end_of_word capital)

@@ -1,12 +1,16 @@
+use Rattle.std.proofs.Common.{not, ◌∙◌, ap, ◌≡◌, rules, tests}
+use Rattle.std.specs.List.{position}
+use Rattle.std.specs.Option.{unwrap_or}
+use lib.ListN.{length}
+use Rattle.std.proofs.lemmas.Iterator.{YieldsList-from_slice}
+use Rattle.std.proofs.lemmas.Iterator.Search.{position_from_yields_List}
+use Rattle.characters.specs.Ranges.{within}
 use Rattle.recognisers.specs.Taking.{is_digit}
-use Rattle.recognisers.proofs.ByteLoops.{count_more, count_stop, count_end}
+use Rattle.recognisers.proofs.LibraryWords.{counted}
 use Rattle.recognisers.proofs.scan.count_digits.Goals as goal
 
-pub loop-i-preserved : goal.loop-i-preserved
-loop-i-preserved c = search (count_more is_digit)
-
-pub returns-else-is_digit : goal.returns-else-is_digit
-returns-else-is_digit c = search (count_stop is_digit)
-
 pub returns : goal.returns
-returns c = search (count_end is_digit)
+unfolding within
+returns c =
+    let found : c.position-end.result ≡ position (λ b. not (is_digit b)) c.args.rest.now = position_from_yields_List (λ b. not (is_digit b)) _ _ _ c.position-end.ensures.ran (YieldsList-from_slice c.args.rest.now cc) (λ x b q k. search (rules, tests)) in
+    c.unwrap_or.ensures ∙ ap (λ o. unwrap_or o (length c.args.rest.now)) found ∙ counted is_digit c.args.rest.now

@@ -1,8 +1,6 @@
-use Rattle.recognisers.proofs.ByteLoops.{stands, stands_not}
+use mathlib.Core.Path.{◌∙◌}
+use Rattle.recognisers.proofs.LibraryWords.{stood}
 use Rattle.recognisers.proofs.scan.stands_at.Goals as goal
 
-pub returns-then-i-rest : goal.returns-then-i-rest
-returns-then-i-rest c = search stands
-
 pub returns : goal.returns
-returns c = search stands_not
+returns c = c.eq.ensures ∙ stood _ _ _ _ c.get.ensures.lookup.0 c.get.ensures.lookup.1

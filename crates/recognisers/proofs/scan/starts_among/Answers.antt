@@ -1,8 +1,9 @@
-use Rattle.recognisers.proofs.Digits.{among_at_start, among_nothing}
+use Rattle.recognisers.proofs.LibraryWords.{first_among, first_none}
+use Rattle.std.proofs.Common.{rules}
 use Rattle.recognisers.proofs.scan.starts_among.Goals as goal
 
-pub returns-then-rest-eq0 : goal.returns-then-rest-eq0
-returns-then-rest-eq0 c = search among_nothing
+pub returns-in-Some : goal.returns-in-Some
+returns-in-Some c = first_among _ _ _ _ c.in-Some.ensures.value c.is_among.ensures
 
-pub returns : goal.returns
-returns c = search among_at_start
+pub returns-in-None : goal.returns-in-None
+returns-in-None c = search (rules, first_none)

@@ -1,13 +1,9 @@
-use Rattle.std.proofs.Common.{rules}
 use Rattle.recognisers.specs.Text.{byte, bytes}
 use Rattle.recognisers.specs.Strings.{closed_by}
 use Rattle.recognisers.proofs.FirstBytes.{opened}
-use Rattle.recognisers.proofs.Unclosed.{hint_inside, square_known}
-use Rattle.recognisers.proofs.Unclosed.{hint_inside, square_known}
+use Rattle.recognisers.proofs.Unclosed.{square_known}
+use Rattle.recognisers.proofs.Unclosed.{square_known}
 use Rattle.recognisers.proofs.strings.bracketed.Goals as goal
-
-pub bounds-hints-0 : goal.bounds-hints-0
-bounds-hints-0 c = search (rules, hint_inside)
 
 pub quoted_known-requires : goal.quoted_known-requires
 quoted_known-requires c = search square_known

@@ -1,19 +1,12 @@
-use Rattle.std.proofs.Common.{rules}
 use Rattle.recognisers.proofs.StringOpeners.{single_is, double_is, tick_is, bracket_is, other_is, unquoted_is}
-use Rattle.recognisers.proofs.Unclosed.{hint_inside, double_known, single_known}
+use Rattle.recognisers.proofs.Unclosed.{double_known, single_known}
 use Rattle.recognisers.proofs.strings.string_taken.Goals as goal
-
-pub bounds-hints-2 : goal.bounds-hints-2
-bounds-hints-2 c = search (rules, hint_inside)
 
 pub quoted_known-requires : goal.quoted_known-requires
 quoted_known-requires c = search single_known
 
 pub returns-then-stands_at : goal.returns-then-stands_at
 returns-then-stands_at c = search single_is
-
-pub bounds-hints-1 : goal.bounds-hints-1
-bounds-hints-1 c = search (rules, hint_inside)
 
 pub quoted_known-requires-then-stands_at-2 : goal.quoted_known-requires-then-stands_at-2
 quoted_known-requires-then-stands_at-2 c = search double_known
