@@ -1,10 +1,11 @@
 -- Laws that the proofs cite, and those of the Rust's own form of the definitions (Uc..).
 pub mod Behind
 pub mod PhraseWalk
-pub mod MeasuredGaps
+pub mod NoGap
+pub mod Lengths
 pub mod FirstEntry
 pub mod OtherLengths
-pub mod LetterEntries
+pub mod FirstLetter
 pub mod LoneDollar
 pub mod EntryTokens
 pub mod PhraseSizes

@@ -1,5 +1,6 @@
 -- What a reserved phrase takes from a well-formed text ends where a character ends.
 -- Assumes nothing.
+use Rattle.std.proofs.Common.{Option, Some, None}
 use Prim.Native.Nat.{ℕ}
 use mathlib.Core.Path.{◌≡◌, refl}
 use mathlib.Core.List.{List, [], ◌∷◌}
@@ -8,11 +9,8 @@ use lib.ListN.{drop}
 use lib.Dec.{ltb, eqb}
 use borrow.Author.Tests.{ltb-true}
 use Rattle.characters.specs.Utf8.{well_formed}
-use Rattle.recognisers.specs.declared.Taken.{Taken}
-use Rattle.recognisers.specs.declared.Taken.TheVariants.{Bytes, Fails}
+use Rattle.recognisers.specs.declared.Piece.{Piece}
 use Rattle.recognisers.specs.declared.TokenKind.TheVariants as K
-use Rattle.recognisers.specs.declared.Recognised.{Recognised}
-use Rattle.recognisers.specs.declared.Recognised.TheVariants.{Nothing}
 use Rattle.recognisers.specs.Text.{bytes}
 use Rattle.recognisers.specs.Taking.{Taker, done, one, capital, blanks, end_of_word}
 use Rattle.recognisers.specs.Pieces.{token_of}
@@ -43,9 +41,9 @@ optional_cuts : (words : List ℕ) → all_ascii words ≡ true → (then : Take
 unfolding optional
 optional_cuts words a then h s w = go (walk words done s) (walk_cuts words a done done_cuts s w)
   where
-    go : (t : Taken) → Leaves s t → Leaves s (after t then s)
-    go (Bytes n) l = more_leaves n s (then (drop n s)) (h (drop n s) l.left)
-    go Fails l = h s w
+    go : (t : Option ℕ) → Leaves s t → Leaves s (after t then s)
+    go (Some n) l = more_leaves n s (then (drop n s)) (h (drop n s) l.left)
+    go None l = h s w
 
 abbrev all_words_ascii : List Phrase → Bool
 all_words_ascii [] = true
@@ -95,13 +93,13 @@ unfolding plain_one_phrases plain_a plain_b plain_c plain_d plain_e plain_f plai
 one_plain = refl
 
 module _ (s : List ℕ) (w : well_formed s ≡ true) where
-  top_level_bounded : (last : TopLevel) (t : Taken) → Leaves s t → Bounded s (top_level_token last s t)
-  top_level_bounded last (Bytes n) h = h.left
-  top_level_bounded last Fails h = tt
+  top_level_bounded : (last : TopLevel) (t : Option ℕ) → Leaves s t → Bounded s (top_level_token last s t)
+  top_level_bounded last (Some n) h = h.left
+  top_level_bounded last None h = tt
 
-  newline_bounded : (between : Bool) (t : Taken) → Leaves s t → Bounded s (newline_token between s t)
-  newline_bounded between (Bytes n) h = h.left
-  newline_bounded between Fails h = tt
+  newline_bounded : (between : Bool) (t : Option ℕ) → Leaves s t → Bounded s (newline_token between s t)
+  newline_bounded between (Some n) h = h.left
+  newline_bounded between None h = tt
 
   pub reserved_bounded : (dot between : Bool) (last : TopLevel) → Bounded s (get_reserved_word_token dot between last s)
   unfolding get_reserved_word_token get_top_level_reserved_token get_newline_after_reserved_token get_newline_reserved_token get_join_token get_top_level_reserved_token_no_indent get_plain_reserved_token
@@ -115,6 +113,6 @@ module _ (s : List ℕ) (w : well_formed s ≡ true) where
       (alt_bounded s (token_of K.Reserved (first_phrase plain_two_phrases s)) _ (token_bounded s K.Reserved _ (first_cuts plain_two_phrases two_plain s w))
       (token_bounded s K.Reserved _ (first_cuts plain_one_phrases one_plain s w))))))))
     where
-      go : (t : Bool) (r : Recognised) → Bounded s r → Bounded s (cond t Nothing r)
+      go : (t : Bool) (r : Option Piece) → Bounded s r → Bounded s (cond t None r)
       go true r h = tt
       go false r h = h

@@ -1,5 +1,6 @@
 -- Every reserved word is at least one byte, lies inside the rest, and has its alias inside it.
 -- Assumes nothing.
+use Rattle.std.proofs.Common.{Option, Some, None}
 use Prim.Native.Nat.{ℕ, ◌≤◌, zero-le}
 use native.Mathlib.Nat.{le_refl}
 use mathlib.Core.Path.{◌≡◌, refl}
@@ -8,11 +9,8 @@ use mathlib.Core.Bool.{Bool, true, false, cond, not, ◌&&◌, ◌||◌, false�
 use lib.ListN.{length, take}
 use lib.Dec.{eqb}
 use lib.Seq.{length-take-le}
-use Rattle.recognisers.specs.declared.Taken.{Taken}
-use Rattle.recognisers.specs.declared.Taken.TheVariants.{Bytes, Fails}
+use Rattle.recognisers.specs.declared.Piece.{Piece}
 use Rattle.recognisers.specs.declared.TokenKind.TheVariants as K
-use Rattle.recognisers.specs.declared.Recognised.{Recognised}
-use Rattle.recognisers.specs.declared.Recognised.TheVariants.{Nothing}
 use Rattle.recognisers.specs.Text.{byte, bytes}
 use Rattle.recognisers.specs.Taking.{Taker, one, typed, capital, is_spelled, blanks, end_of_word}
 use Rattle.recognisers.specs.Pieces.{token_of, alt}
@@ -75,16 +73,16 @@ alias_fits v = go (is_spelled typed (bytes "CREATE") v) (is_spelled typed (bytes
     go false true e f = spelled_fits typed (bytes "SELECT") v f
     go false false e f = le_refl (length v)
 
-top_level_sized : (last : TopLevel) (s : List ℕ) (t : Taken) → Takes 1 s t → Sized s (top_level_token last s t)
-top_level_sized last s (Bytes n) h =
+top_level_sized : (last : TopLevel) (s : List ℕ) (t : Option ℕ) → Takes 1 s t → Sized s (top_level_token last s t)
+top_level_sized last s (Some n) h =
     let a = alias_fits (take n s) in
     let l : length (take n s) ≡ n = length-take-le n s h.inside in
     record { some = h.least; inside = h.inside; alias_inside = rw l at a; key_inside = tt; escaped_inside = zero-le }
-top_level_sized last s Fails h = tt
+top_level_sized last s None h = tt
 
-newline_sized : (between : Bool) (s : List ℕ) (t : Taken) → Takes 1 s t → Sized s (newline_token between s t)
-newline_sized between s (Bytes n) h = record { some = h.least; inside = h.inside; alias_inside = le_refl n; key_inside = tt; escaped_inside = zero-le }
-newline_sized between s Fails h = tt
+newline_sized : (between : Bool) (s : List ℕ) (t : Option ℕ) → Takes 1 s t → Sized s (newline_token between s t)
+newline_sized between s (Some n) h = record { some = h.least; inside = h.inside; alias_inside = le_refl n; key_inside = tt; escaped_inside = zero-le }
+newline_sized between s None h = tt
 
 -- ---- the six groups
 
@@ -116,7 +114,7 @@ one_begins : all_begin plain_one_phrases ≡ true
 unfolding plain_one_phrases plain_a plain_b plain_c plain_d plain_e plain_f plain_g plain_h plain_i plain_k plain_l plain_m plain_n plain_o plain_p plain_q plain_r plain_s plain_t plain_u plain_v plain_w plain_y
 one_begins = refl
 
-module _ (s : List ℕ) (a b c d e f g : Recognised) where
+module _ (s : List ℕ) (a b c d e f g : Option Piece) where
   groups_sized : Sized s a → Sized s b → Sized s c → Sized s d → Sized s e → Sized s f → Sized s g → Sized s (alt a (alt b (alt c (alt d (alt e (alt f g))))))
   groups_sized h i j k l m n =
       alt_sized s a (alt b (alt c (alt d (alt e (alt f g))))) h
@@ -143,6 +141,6 @@ reserved_sized dot between last s =
     (takes_sized s K.Reserved (first_phrase plain_two_phrases s) (first_takes plain_two_phrases two_begins s))
     (takes_sized s K.Reserved (first_phrase plain_one_phrases s) (first_takes plain_one_phrases one_begins s)))
   where
-    go : (t : Bool) (r : Recognised) → Sized s r → Sized s (cond t Nothing r)
+    go : (t : Bool) (r : Option Piece) → Sized s r → Sized s (cond t None r)
     go true r h = tt
     go false r h = h

@@ -1,5 +1,6 @@
 -- A phrase's words in the text, one byte of the phrase at a time.
 -- Assumes nothing.
+use Rattle.std.proofs.Common.{Option, Some, None, slice_get}
 use Prim.Native.Nat.{ℕ, suc, ◌+◌, ◌-◌, ◌^◌, ◌≤◌, ◌<◌, zero-le}
 use native.Mathlib.Nat.{add-zero}
 use native.Mathlib.Numerals.{add-one}
@@ -17,8 +18,6 @@ use Rattle.characters.specs.Classes.{is_whitespace}
 use Rattle.characters.specs.Character.{code_point}
 use Rattle.characters.specs.Runs.{in_class, run}
 use Rattle.characters.specs.declared.Class.TheVariants.{Whitespace}
-use Rattle.recognisers.specs.declared.Taken.{Taken}
-use Rattle.recognisers.specs.declared.Taken.TheVariants.{Bytes, Fails}
 use Rattle.recognisers.specs.Taking.{Taker, taken, more, done, one, capital, blanks, end_of_word}
 use Rattle.recognisers.specs.Text.{bytes}
 use Rattle.characters.proofs.Rests.{part_end}
@@ -29,6 +28,8 @@ use Rattle.reserved.specs.Phrases.{Phrase, phrase, phrase_if_exists, walk, after
 use Rattle.reserved.specs.UcChoices.{behind}
 use Rattle.reserved.proofs.Behind.{behind_behind, behind_same, bytes_behind}
 use Rattle.reserved.specs.Inner.Entries.{if_exists, ending, entry_end}
+use Rattle.reserved.specs.declared.entries.Group.{Group}
+use Rattle.reserved.specs.declared.entries.Group.TheVariants.{TopLevel, Dropped, NewlineAfter, Newline, Join, NoIndent, Plain}
 
 abbrev pub words_of : Phrase → List ℕ
 words_of (phrase words) = words
@@ -58,7 +59,7 @@ walk_and (p ∷ words) then s =
     walk_step p words then s
     ∙ behind_same (walk (p ∷ []) done s) (walk words then) (λ u. behind (walk words done u) then u) s (walk_and words then)
     ∙ sym (behind_behind (walk (p ∷ []) done s) (walk words done) then s)
-    ∙ ap (λ (t : Taken). behind t then s) (sym (walk_step p words done s))
+    ∙ ap (λ (t : Option ℕ). behind t then s) (sym (walk_step p words done s))
 
 pub walk_inside : (words : List ℕ) (then : Taker) → Inside then → Inside (walk words then)
 unfolding walk
@@ -73,46 +74,47 @@ walk_inside (p ∷ words) then h s = go (eqb p 32) (walk_inside words then h)
 
 module _ (s : List ℕ) (p : ℕ) where
   module _ (n : ℕ) (e : p ≡ 32) (r : n ≡ run (in_class Whitespace) 0 s) where
-    pub gap_none : n ≡ 0 → Fails ≡ walk (p ∷ []) done s
+    pub gap_none : n ≡ 0 → None ≡ walk (p ∷ []) done s
     unfolding walk
     gap_none z = blanks_none s n r done z ∙ rw (eq-eqb p 32 e)
 
-    pub gap_taken : (n ≡ 0 → ⊥) → Bytes n ≡ walk (p ∷ []) done s
+    pub gap_taken : (n ≡ 0 → ⊥) → Some n ≡ walk (p ∷ []) done s
     unfolding walk
-    gap_taken z = blanks_then s n r done (Bytes 0) (Bytes n) z refl (ap Bytes (sym (add-zero n))) ∙ rw (eq-eqb p 32 e)
+    gap_taken z = blanks_then s n r done (Some 0) (Some n) z refl (ap Some (sym (add-zero n))) ∙ rw (eq-eqb p 32 e)
 
   module _ (ne : eqb p 32 ≡ false) where
-    pub letter_none : length s ≡ 0 → Fails ≡ walk (p ∷ []) done s
+    pub letter_none : (t : Option ℕ) → None ≡ slice_get s 0 → t ≡ None → t ≡ walk (p ∷ []) done s
     unfolding walk one
-    letter_none z = go s refl
+    letter_none t n e = e ∙ go s n
       where
-        go : (t : List ℕ) → s ≡ t → Fails ≡ cond (eqb p 32) (blanks done s) (one (λ b. eqb (capital b) p) done s)
-        go [] q = rw (ne, q)
-        go (b ∷ t) q = absurd (let l : length (b ∷ t) ≡ 0 = rw q at z in let y : ⊥ = omega arith in y)
+        go : (s : List ℕ) → None ≡ slice_get s 0 → None ≡ walk (p ∷ []) done s
+        go [] q = rw ne
+        go (b ∷ s) q = absurd (let z : ⊥ = cc in z)
 
-    module _ (some : length s ≡ 0 → ⊥) (x : ℕ) (c : x ≡ capital (get_or s 0 0)) where
-      pub letter_taken : x ≡ p → Bytes 1 ≡ walk (p ∷ []) done s
+    module _ (b x : ℕ) (first : Some b ≡ slice_get s 0) (c : x ≡ capital b) where
+      pub letter_taken : x ≡ p → Some 1 ≡ walk (p ∷ []) done s
       unfolding walk one
-      letter_taken e = go s refl
+      letter_taken e = go s first
         where
-          go : (t : List ℕ) → s ≡ t → Bytes 1 ≡ cond (eqb p 32) (blanks done s) (one (λ b. eqb (capital b) p) done s)
-          go [] q = absurd (some (rw q))
-          go (b ∷ t) q =
-              let d : capital b ≡ p = sym (rw q at c) ∙ e in
-              rw (ne, q, eq-eqb (capital b) p d)
+          go : (s : List ℕ) → Some b ≡ slice_get s 0 → Some 1 ≡ walk (p ∷ []) done s
+          go [] q = absurd (let z : ⊥ = cc in z)
+          go (a ∷ s) q =
+              let k : b ≡ a = cc in
+              rw (ne, ← k, ← c, eq-eqb x p e)
 
-      pub letter_other : (x ≡ p → ⊥) → Fails ≡ walk (p ∷ []) done s
+      pub letter_other : (x ≡ p → ⊥) → None ≡ walk (p ∷ []) done s
       unfolding walk one
-      letter_other e = go s refl
+      letter_other e = go s first
         where
-          go : (t : List ℕ) → s ≡ t → Fails ≡ cond (eqb p 32) (blanks done s) (one (λ b. eqb (capital b) p) done s)
-          go [] q = absurd (some (rw q))
-          go (b ∷ t) q =
-              let d : x ≡ capital b = rw q at c in
-              rw (ne, q, ne_eqb (capital b) p (λ y. e (d ∙ y)))
+          go : (s : List ℕ) → Some b ≡ slice_get s 0 → None ≡ walk (p ∷ []) done s
+          go [] q = absurd (let z : ⊥ = cc in z)
+          go (a ∷ s) q =
+              let k : b ≡ a = cc in
+              rw (ne, ← k, ← c, ne_eqb x p e)
 
-pub letter_there : (s : List ℕ) (at p : ℕ) (t : Taken) → t ≡ walk (p ∷ []) done (take (length s - at) (drop at s)) → t ≡ walk (p ∷ []) done (drop at s)
-letter_there s at p t e = e ∙ ap (walk (p ∷ []) done) (part_end s at)
+-- n bytes of words, so the rest has them
+pub words_inside : (words s : List ℕ) (n : ℕ) → Some n ≡ walk words done s → n ≤ length s
+words_inside words s n e = rw (← e) at (walk_inside words done done_inside s)
 
 -- ---- the loop of `words_end`
 
@@ -121,47 +123,46 @@ pub record WalkAt (words s : List ℕ) (at i : ℕ) : Type 0 where
   pub there : at ≤ length s
   pub same : walk words done s ≡ more at (walk (drop i words) done (drop at s))
 
-pub walk_start : (words s : List ℕ) → WalkAt words s 0 0
-walk_start words s = record { inside = zero-le; there = zero-le; same = sym (more_zero (walk words done s)) }
-
-module _ (words s : List ℕ) (at i : ℕ) (w : WalkAt words s at i) (h : i < length words) (t : Taken) (e : t ≡ walk (get_or words i 0 ∷ []) done (drop at s)) where
+module _ (words s : List ℕ) (at i : ℕ) (w : WalkAt words s at i) (h : i < length words) (t : Option ℕ) (e : t ≡ walk (get_or words i 0 ∷ []) done (drop at s)) where
   go_on : walk words done s ≡ more at (behind t (walk (drop (suc i) words) done) (drop at s))
   go_on =
       let k : walk (drop i words) done (drop at s) ≡ behind t (walk (drop (suc i) words) done) (drop at s) =
       rw (drop-cons words i 0 h, e) (walk_step (get_or words i 0) (drop (suc i) words) done (drop at s)) in
       w.same ∙ ap (more at) k
 
-  pub walk_fails : t ≡ Fails → Fails ≡ walk words done s
-  walk_fails f = sym (go_on ∙ rw f)
+-- the words begin at `from`
+module _ (words s : List ℕ) (from at i : ℕ) (w : WalkAt words (drop from s) at i) (h : i < length words) where
+  pub walk_fails : None ≡ walk (get_or words i 0 ∷ []) done (drop (from + at) s) → None ≡ walk words done (drop from s)
+  walk_fails e = sym (go_on words (drop from s) at i w h None (e ∙ rw (drop-drop at from s)))
 
-  module _ (n : ℕ) (f : t ≡ Bytes n) where
-    fits : at + n ≤ length s
+  module _ (n : ℕ) (e : Some n ≡ walk (get_or words i 0 ∷ []) done (drop (from + at) s)) where
+    fits : at + n ≤ length (drop from s)
     fits =
-        let k : taken t ≤ length (drop at s) = rw e (walk_inside (get_or words i 0 ∷ []) done done_inside (drop at s)) in
-        let m : n ≤ length (drop at s) = rw f at k in
+        let k = words_inside (get_or words i 0 ∷ []) (drop (from + at) s) n e in
         let th = w.there in
-        omega (arith, length-drop at s)
+        omega (arith, length-drop (from + at) s, length-drop from s)
 
     pub walk_fits : length s < 2 ^ 64 → Fits w64 (at + n)
-    walk_fits l = record { fits = omega (arith, fits) }
+    walk_fits l = record { fits = omega (arith, fits, length-drop from s) }
 
-    pub walk_more : WalkAt words s (at + n) (i + 1)
+    pub walk_more : WalkAt words (drop from s) (at + n) (i + 1)
     walk_more =
         record {
           inside = omega arith;
           there = fits;
-          same = go_on ∙ rw (f, more_more at n (walk (drop (suc i) words) done (drop n (drop at s))), drop-drop n at s, ← add-one i);
+          same = go_on words (drop from s) at i w h (Some n) (e ∙ rw (drop-drop at from s)) ∙ rw (more_more at n (walk (drop (suc i) words) done (drop n (drop at (drop from s)))), drop-drop n at (drop from s), ← add-one i);
         }
 
-pub walk_end : (words s : List ℕ) (at i : ℕ) → WalkAt words s at i → length words ≤ i → Bytes at ≡ walk words done s
+pub walk_end : (words s : List ℕ) (at i : ℕ) → WalkAt words s at i → length words ≤ i → Some at ≡ walk words done s
 unfolding walk
-walk_end words s at i w h = sym (w.same ∙ rw (drop_of_length-le words h) (ap Bytes (add-zero at)))
+walk_end words s at i w h = sym (w.same ∙ rw (drop_of_length-le words h) (ap Some (add-zero at)))
 
 -- ---- what follows the words
 
--- n bytes of words, so the rest has them
-pub words_fit : (words s : List ℕ) (t : Taken) (n : ℕ) → t ≡ walk words done s → t ≡ Bytes n → n ≤ length s
-words_fit words s t n e f = let h : taken t ≤ length s = rw e (walk_inside words done done_inside s) in rw f at h
+pub words_fit : (words s : List ℕ) (from n : ℕ) → Some n ≡ walk words done (drop from s) → from ≤ length s → from + n ≤ length s
+words_fit words s from n e h =
+    let k = words_inside words (drop from s) n e in
+    omega (arith, length-drop from s)
 
 optional_is : (s : List ℕ) → if_exists s ≡ after (walk (bytes " IF EXISTS") done s) end_of_word s
 unfolding if_exists optional
@@ -170,35 +171,50 @@ optional_is s = refl
 pub exists_inside : Inside if_exists
 exists_inside s = rw (optional_is s) (go (walk (bytes " IF EXISTS") done s) (walk_inside (bytes " IF EXISTS") done done_inside s))
   where
-    go : (t : Taken) → taken t ≤ length s → taken (after t end_of_word s) ≤ length s
-    go (Bytes n) h =
+    go : (t : Option ℕ) → taken t ≤ length s → taken (after t end_of_word s) ≤ length s
+    go (Some n) h =
         let k = end_of_word_inside (drop n s) in
         both (end_of_word (drop n s)) k
       where
-        both : (o : Taken) → taken o ≤ length (drop n s) → taken (more n o) ≤ length s
-        both (Bytes m) l = omega (arith, length-drop n s)
-        both Fails l = zero-le
-    go Fails h = end_of_word_inside s
+        both : (o : Option ℕ) → taken o ≤ length (drop n s) → taken (more n o) ≤ length s
+        both (Some m) l = omega (arith, length-drop n s)
+        both None l = zero-le
+    go None h = end_of_word_inside s
 
-module _ (s : List ℕ) (t : Taken) (e : t ≡ walk (bytes " IF EXISTS") done s) where
-  pub exists_yes : (n : ℕ) (u q : Taken) → t ≡ Bytes n → u ≡ end_of_word (take (length s - n) (drop n s)) → q ≡ more n u → q ≡ if_exists s
-  exists_yes n u q f g k = k ∙ rw (optional_is s, ← e, f, g, part_end s n)
+module _ (s : List ℕ) (from : ℕ) where
+  module _ (n : ℕ) (e : Some n ≡ walk (bytes " IF EXISTS") done (drop from s)) (u : Option ℕ) (g : u ≡ end_of_word (take (length s - (from + n)) (drop (from + n) s))) where
+    pub exists_yes : (t : Option ℕ) → t ≡ more n u → t ≡ if_exists (drop from s)
+    exists_yes t k = k ∙ rw (optional_is (drop from s), ← e, g, part_end s (from + n), drop-drop n from s)
 
-  pub exists_no : (u : Taken) → t ≡ Fails → u ≡ end_of_word s → u ≡ if_exists s
-  exists_no u f g = g ∙ rw (optional_is s, ← e, f)
+    pub exists_fits : from ≤ length s → length s < 2 ^ 64 → n + taken u < 2 ^ 64
+    exists_fits h l =
+        let k = words_fit (bytes " IF EXISTS") s from n e h in
+        let f = fits_more end_of_word end_of_word_inside s (from + n) u g k l in
+        omega arith
 
-pub ending_inside : (o : Bool) → Inside (ending o)
-ending_inside true = exists_inside
-ending_inside false = end_of_word_inside
+  pub exists_no : None ≡ walk (bytes " IF EXISTS") done (drop from s) → (u : Option ℕ) → u ≡ end_of_word (take (length s - from) (drop from s)) → u ≡ if_exists (drop from s)
+  exists_no e u g = g ∙ rw (optional_is (drop from s), ← e, part_end s from)
 
-module _ (group : ℕ) (words s : List ℕ) (t : Taken) (e : t ≡ walk words done s) where
-  pub entry_yes : (n : ℕ) (u q : Taken) → t ≡ Bytes n → u ≡ ending (eqb group 68) (take (length s - n) (drop n s)) → q ≡ more n u → q ≡ entry_end group words s
+pub ending_inside : (group : Group) → Inside (ending group)
+ending_inside TopLevel = end_of_word_inside
+ending_inside Dropped = exists_inside
+ending_inside NewlineAfter = end_of_word_inside
+ending_inside Newline = end_of_word_inside
+ending_inside Join = end_of_word_inside
+ending_inside NoIndent = end_of_word_inside
+ending_inside Plain = end_of_word_inside
+
+pub entry_no : (group : Group) (words s : List ℕ) (t : Option ℕ) → t ≡ None → None ≡ walk words done s → t ≡ entry_end group words s
+unfolding entry_end
+entry_no group words s t q e = q ∙ sym (walk_and words (ending group) s ∙ rw (← e))
+
+module _ (group : Group) (words s : List ℕ) (n : ℕ) (e : Some n ≡ walk words done s) (u : Option ℕ) (g : u ≡ ending group (drop n s)) where
+  pub entry_yes : (t : Option ℕ) → t ≡ more n u → t ≡ entry_end group words s
   unfolding entry_end
-  entry_yes n u q f g k = k ∙ rw (walk_and words (ending (eqb group 68)) s, ← e, f, g, part_end s n)
+  entry_yes t k = k ∙ rw (walk_and words (ending group) s, ← e, g)
 
-  pub entry_no : t ≡ Fails → Fails ≡ entry_end group words s
-  unfolding entry_end
-  entry_no f = sym (walk_and words (ending (eqb group 68)) s ∙ rw (← e, f))
-
-  pub entry_fits : (n : ℕ) (u : Taken) → t ≡ Bytes n → u ≡ ending (eqb group 68) (take (length s - n) (drop n s)) → length s < 2 ^ 64 → n + taken u < 2 ^ 64
-  entry_fits n u f g l = fits_more (ending (eqb group 68)) (ending_inside (eqb group 68)) s n u g (words_fit words s t n e f) l
+  pub entry_fits : length s < 2 ^ 64 → n + taken u < 2 ^ 64
+  entry_fits l =
+      let k = words_inside words s n e in
+      let m : taken u ≤ length (drop n s) = rw g (ending_inside group (drop n s)) in
+      omega (arith, length-drop n s)

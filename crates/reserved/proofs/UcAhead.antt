@@ -1,5 +1,6 @@
 -- A phrase stands in the string that `get_uc_words` makes exactly where its words can be walked in the text.
 -- Assumes nothing.
+use Rattle.std.proofs.Common.{Option, Some, None}
 use Prim.Native.Nat.{ℕ, zero, suc}
 use native.Mathlib.Omega.{arith}
 use mathlib.Core.Path.{◌≡◌, refl, sym, ap, ◌∙◌}
@@ -12,8 +13,6 @@ use Rattle.characters.specs.Ranges.{within}
 use Rattle.characters.specs.Classes.{is_whitespace, is_word_character}
 use Rattle.characters.specs.Character.{is_continuation, continuations, continued, first_bits, with_bits, code_point}
 use Rattle.characters.specs.Runs.{run}
-use Rattle.recognisers.specs.declared.Taken.{Taken}
-use Rattle.recognisers.specs.declared.Taken.TheVariants.{Bytes, Fails}
 use Rattle.recognisers.specs.Taking.{Taker, more, done, one, typed, spelled, literal, capital, blanks, end_of_word}
 use Rattle.reserved.specs.Phrases.{walk}
 use Rattle.reserved.specs.UcWords.{not_whitespace, trim_start, is_empty, split_whitespace, spaced, to_ascii_uppercase}
@@ -51,11 +50,11 @@ module _ (then : Taker) (p : ℕ) (words : List ℕ) where
   unfolding spelled one typed
   lit_yes x u e = rw e
 
-  pub lit_no : (x : ℕ) (u : List ℕ) → eqb x p ≡ false → literal (p ∷ words) then (x ∷ u) ≡ Fails
+  pub lit_no : (x : ℕ) (u : List ℕ) → eqb x p ≡ false → literal (p ∷ words) then (x ∷ u) ≡ None
   unfolding spelled one typed
   lit_no x u e = rw e
 
-  pub lit_end : literal (p ∷ words) then [] ≡ Fails
+  pub lit_end : literal (p ∷ words) then [] ≡ None
   unfolding spelled one
   lit_end = refl
 
@@ -64,11 +63,11 @@ module _ (then : Taker) (p : ℕ) (words : List ℕ) where
     unfolding walk one
     letter_yes b s e = rw (n, e)
 
-    pub letter_no : (b : ℕ) (s : List ℕ) → eqb (capital b) p ≡ false → walk (p ∷ words) then (b ∷ s) ≡ Fails
+    pub letter_no : (b : ℕ) (s : List ℕ) → eqb (capital b) p ≡ false → walk (p ∷ words) then (b ∷ s) ≡ None
     unfolding walk one
     letter_no b s e = rw (n, e)
 
-    pub letter_end : walk (p ∷ words) then [] ≡ Fails
+    pub letter_end : walk (p ∷ words) then [] ≡ None
     unfolding walk one
     letter_end = rw n
 
@@ -77,12 +76,12 @@ module _ (then : Taker) (words : List ℕ) (s : List ℕ) where
   unfolding walk blanks
   gap_yes w = rw w
 
-  pub gap_no : is_whitespace (code_point s) ≡ false → walk (32 ∷ words) then s ≡ Fails
+  pub gap_no : is_whitespace (code_point s) ≡ false → walk (32 ∷ words) then s ≡ None
   unfolding walk blanks
   gap_no w = rw w
 
 -- a word does not begin at the end of a text
-pub begins_end : (then : Taker) (words : List ℕ) → begins words ≡ true → walk words then [] ≡ Fails
+pub begins_end : (then : Taker) (words : List ℕ) → begins words ≡ true → walk words then [] ≡ None
 unfolding within
 begins_end then [] b = absurd (false≢true b)
 begins_end then (p ∷ words) b = letter_end then p words (ne_eqb p 32 (λ e. false≢true (rw e at b)))
@@ -199,13 +198,13 @@ word_ahead n (b ∷ s) = go (is_whitespace (code_point (b ∷ s))) refl (within 
 
 -- ---- the walk and the string
 
-abbrev pub stands : Taken → Bool
-stands (Bytes n) = true
-stands Fails = false
+abbrev pub stands : Option ℕ → Bool
+stands (Some n) = true
+stands None = false
 
-pub stands_more : (n : ℕ) (t : Taken) → stands (more n t) ≡ stands t
-stands_more n (Bytes m) = refl
-stands_more n Fails = refl
+pub stands_more : (n : ℕ) (t : Option ℕ) → stands (more n t) ≡ stands t
+stands_more n (Some m) = refl
+stands_more n None = refl
 
 -- what may follow a phrase: it says the same of the string as of the text
 abbrev pub Alike : Taker → Type 0
@@ -222,10 +221,10 @@ module _ (then : Taker) where
   abbrev Agree : List ℕ → ℕ → List ℕ → Type 0
   Agree words n s = stands (literal words then (ahead 0 n s)) ≡ stands (walk words then s)
 
-  fails_both : (a b : Taken) → a ≡ Fails → b ≡ Fails → stands a ≡ stands b
+  fails_both : (a b : Option ℕ) → a ≡ None → b ≡ None → stands a ≡ stands b
   fails_both a b e f = rw (e, f)
 
-  more_both : (m n : ℕ) (a b c d : Taken) → a ≡ more m c → b ≡ more n d → stands c ≡ stands d → stands a ≡ stands b
+  more_both : (m n : ℕ) (a b c d : Option ℕ) → a ≡ more m c → b ≡ more n d → stands c ≡ stands d → stands a ≡ stands b
   more_both m n a b c d e f g = rw (e, f, stands_more m c, stands_more n d) g
 
   module _ (words : List ℕ) where
@@ -235,7 +234,7 @@ module _ (then : Taker) where
         (gap_no then words [] end_not_white)
     space_agrees n (b ∷ s) h ih = go (is_whitespace (code_point (b ∷ s))) refl
       where
-        lit : List ℕ → Taken
+        lit : List ℕ → Option ℕ
         lit u = literal (32 ∷ words) then u
 
         in_gap : (t : List ℕ) → stands (literal (32 ∷ words) then (cond (is_empty t) [] (32 ∷ ahead 0 n t))) ≡ stands (walk words then t)
@@ -258,7 +257,7 @@ module _ (then : Taker) where
           fails_both (literal (p ∷ words) then (ahead 0 n [])) (walk (p ∷ words) then []) (rw (ahead_end 0 n) (lit_end then p words)) (letter_end then p words o)
       letter_agrees n (b ∷ s) ih = go (is_whitespace (code_point (b ∷ s))) refl (eqb (capital b) p) refl
         where
-          lit : List ℕ → Taken
+          lit : List ℕ → Option ℕ
           lit u = literal (p ∷ words) then u
 
           space : eqb 32 p ≡ false
@@ -271,7 +270,7 @@ module _ (then : Taker) where
           go true w true e = absurd (false≢true (sym (visible_first b s (visible e)) ∙ w))
           go true w false e =
               fails_both (lit (ahead 0 n (b ∷ s))) (walk (p ∷ words) then (b ∷ s))
-              (white_either (λ u. literal (p ∷ words) then u ≡ Fails) (lit_end then p words) (λ u. lit_no then p words 32 u space) n b s w)
+              (white_either (λ u. literal (p ∷ words) then u ≡ None) (lit_end then p words) (λ u. lit_no then p words 32 u space) n b s w)
               (letter_no then p words o b s e)
           go false w true e =
               more_both 1 1 (lit (ahead 0 n (b ∷ s))) (walk (p ∷ words) then (b ∷ s)) (literal words then (ahead 0 n s)) (walk words then s)

@@ -1,6 +1,7 @@
 -- The alternatives of `get_top_level_reserved_token`, nested as in the Rust, are `top_level_phrases`; and the phrases of the
 -- text's first letter find what all find.
 -- Assumes nothing.
+use Rattle.std.proofs.Common.{Option, Some, None}
 use mathlib.Core.Path.{◌≡◌, refl, sym, ap, ◌∙◌}
 use Prim.Native.Nat.{ℕ, suc}
 use mathlib.Core.List.{List, [], ◌∷◌, ◌++◌}
@@ -8,8 +9,6 @@ use mathlib.Core.Bool.{Bool, true, false, cond, ◌&&◌, and-eq-true_iff}
 use lib.Dec.{eqb}
 use Rattle.characters.specs.Classes.{is_whitespace}
 use Rattle.characters.specs.Character.{continuations, continued, code_point}
-use Rattle.recognisers.specs.declared.Taken.{Taken}
-use Rattle.recognisers.specs.declared.Taken.TheVariants.{Bytes, Fails}
 use Rattle.recognisers.specs.Text.{bytes}
 use Rattle.recognisers.specs.Taking.{Taker, or, typed, is_spelled, spelled, literal, capital, end_of_word}
 use Rattle.reserved.specs.Phrases.{Phrase, phrase, phrase_if_exists, each}
@@ -22,10 +21,10 @@ use Rattle.reserved.proofs.UcChoices.{first_then, own, clear, or_fails, commits}
 
 -- ---- an arm
 
-behind_end : (t : Taken) (then : Taker) (s : List ℕ) → behind t (first_then ([] ∷ []) then) s ≡ behind t then s
+behind_end : (t : Option ℕ) (then : Taker) (s : List ℕ) → behind t (first_then ([] ∷ []) then) s ≡ behind t then s
 unfolding spelled
-behind_end (Bytes n) then s = rw (or_fails (then _))
-behind_end Fails then s = refl
+behind_end (Some n) then s = rw (or_fails (then _))
+behind_end None then s = refl
 
 choice_is : (c : Choice) (then : Taker) (s : List ℕ) → clear c ([] ∷ []) ≡ true → behind (choose c s) then s ≡ first_then (own c) then s
 choice_is c then s h = sym (behind_end (choose c s) then s) ∙ commits c ([] ∷ []) then s h
@@ -76,9 +75,9 @@ unfolding first_uc_phrase
 first_append [] B s = refl
 first_append (p ∷ A) B s = rw (first_append A B s) (go (uc_phrase p s))
   where
-    go : (t : Taken) → or t (or (first_uc_phrase A s) (first_uc_phrase B s)) ≡ or (or t (first_uc_phrase A s)) (first_uc_phrase B s)
-    go (Bytes n) = refl
-    go Fails = refl
+    go : (t : Option ℕ) → or t (or (first_uc_phrase A s) (first_uc_phrase B s)) ≡ or (or t (first_uc_phrase A s)) (first_uc_phrase B s)
+    go (Some n) = refl
+    go None = refl
 
 arms_are : (arms : List Arm) (s : List ℕ) → all_clear arms ≡ true → first_arm arms s ≡ first_uc_phrase (all_phrases arms) s
 unfolding first_arm first_uc_phrase

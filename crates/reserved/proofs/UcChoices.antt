@@ -1,6 +1,7 @@
 -- Nested alternatives are the phrases written out where no choice hides another, that is where no two that are to be told
 -- apart can stand at one place (`clear`, a test that computes).
 -- Assumes nothing.
+use Rattle.std.proofs.Common.{Option, Some, None}
 use Prim.Native.Nat.{ℕ}
 use native.Mathlib.Nat.{add-zero}
 use mathlib.Core.Path.{◌≡◌, refl, sym, ap, ◌∙◌}
@@ -10,8 +11,6 @@ use lib.ListN.{length, drop}
 use lib.Seq.{drop-drop}
 use lib.Dec.{eqb}
 use borrow.Author.Tests.{eqb-true, eq-eqb}
-use Rattle.recognisers.specs.declared.Taken.{Taken}
-use Rattle.recognisers.specs.declared.Taken.TheVariants.{Bytes, Fails}
 use Rattle.recognisers.specs.Taking.{Taker, more, or, done, typed, is_spelled, literal}
 use Rattle.recognisers.proofs.Spelling.{not_fails, more_zero, spelled_is}
 use Rattle.reserved.specs.UcChoices.{Choice, words, both, either, maybe, behind, first_word, choose}
@@ -21,23 +20,23 @@ use Rattle.reserved.proofs.UcWords.{literal_append}
 
 -- ---- taking one after the other
 
-pub or_fails : (t : Taken) → or t Fails ≡ t
-or_fails (Bytes n) = refl
-or_fails Fails = refl
+pub or_fails : (t : Option ℕ) → or t None ≡ t
+or_fails (Some n) = refl
+or_fails None = refl
 
 -- ---- phrases written out: the first that stands, with what follows it
 
 abbrev pub first_then : List (List ℕ) → Taker → Taker
-first_then [] then s = Fails
+first_then [] then s = None
 first_then (w ∷ ws) then s = or (literal w then s) (first_then ws then s)
 
 first_then_append : (A B : List (List ℕ)) (then : Taker) (s : List ℕ) → first_then (A ++ B) then s ≡ or (first_then A then s) (first_then B then s)
 first_then_append [] B then s = refl
 first_then_append (w ∷ A) B then s = rw (first_then_append A B then s) (go (literal w then s))
   where
-    go : (t : Taken) → or t (or (first_then A then s) (first_then B then s)) ≡ or (or t (first_then A then s)) (first_then B then s)
-    go (Bytes n) = refl
-    go Fails = refl
+    go : (t : Option ℕ) → or t (or (first_then A then s) (first_then B then s)) ≡ or (or t (first_then A then s)) (first_then B then s)
+    go (Some n) = refl
+    go None = refl
 
 abbrev prefixed : List ℕ → List (List ℕ) → List (List ℕ)
 prefixed w [] = []
@@ -81,16 +80,16 @@ one_begins (c ∷ w) (d ∷ x) (b ∷ s) e f =
     let q = eqb-true b d f₂.0 in
     rw (← p, ← q, eq-eqb b b refl) (one_begins w x s e₂.1 f₂.1)
 
-not_there : (x : List ℕ) (then : Taker) (s : List ℕ) → is_spelled typed x s ≡ false → literal x then s ≡ Fails
+not_there : (x : List ℕ) (then : Taker) (s : List ℕ) → is_spelled typed x s ≡ false → literal x then s ≡ None
 not_there x then s e = spelled_is typed x s then ∙ rw e
 
-apart_fails : (w : List ℕ) (B : List (List ℕ)) (then : Taker) (s : List ℕ) → is_spelled typed w s ≡ true → apart_from w B ≡ true → first_then B then s ≡ Fails
+apart_fails : (w : List ℕ) (B : List (List ℕ)) (then : Taker) (s : List ℕ) → is_spelled typed w s ≡ true → apart_from w B ≡ true → first_then B then s ≡ None
 apart_fails w [] then s e a = refl
 apart_fails w (x ∷ B) then s e a =
     let a₂ = (and-eq-true_iff (not (is_spelled typed w x) && not (is_spelled typed x w)) (apart_from w B)).0 a in
     go (is_spelled typed x s) refl a₂.0 (apart_fails w B then s e a₂.1)
   where
-    go : (t : Bool) → is_spelled typed x s ≡ t → (not (is_spelled typed w x) && not (is_spelled typed x w)) ≡ true → first_then B then s ≡ Fails → or (literal x then s) (first_then B then s) ≡ Fails
+    go : (t : Bool) → is_spelled typed x s ≡ t → (not (is_spelled typed w x) && not (is_spelled typed x w)) ≡ true → first_then B then s ≡ None → or (literal x then s) (first_then B then s) ≡ None
     go true q o rest = absurd (false≢true (sym (one_begins w x s e q) ∙ o))
     go false q o rest = rw (not_there x then s q, rest)
 
@@ -100,13 +99,13 @@ abbrev any_spelled : List (List ℕ) → List ℕ → Bool
 any_spelled [] s = false
 any_spelled (w ∷ A) s = is_spelled typed w s || any_spelled A s
 
-any_apart : (A B : List (List ℕ)) (then : Taker) (s : List ℕ) → any_spelled A s ≡ true → all_apart A B ≡ true → first_then B then s ≡ Fails
+any_apart : (A B : List (List ℕ)) (then : Taker) (s : List ℕ) → any_spelled A s ≡ true → all_apart A B ≡ true → first_then B then s ≡ None
 any_apart [] B then s e a = absurd (false≢true e)
 any_apart (w ∷ A) B then s e a =
     let a₂ = (and-eq-true_iff (apart_from w B) (all_apart A B)).0 a in
     go (is_spelled typed w s) refl a₂.0 (λ f. any_apart A B then s f a₂.1)
   where
-    go : (t : Bool) → is_spelled typed w s ≡ t → apart_from w B ≡ true → (any_spelled A s ≡ true → first_then B then s ≡ Fails) → first_then B then s ≡ Fails
+    go : (t : Bool) → is_spelled typed w s ≡ t → apart_from w B ≡ true → (any_spelled A s ≡ true → first_then B then s ≡ None) → first_then B then s ≡ None
     go true q o rest = apart_fails w B then s q o
     go false q o rest = rest (rw q at e)
 
@@ -130,53 +129,53 @@ any_prefixed : (w : List ℕ) (B : List (List ℕ)) (s : List ℕ) → is_spelle
 any_prefixed w [] s e = refl
 any_prefixed w (x ∷ B) s e = rw (spelled_append w x s e, any_prefixed w B s e)
 
-there : (w s : List ℕ) → is_spelled typed w s ≡ true → literal w done s ≡ Bytes (length w)
-there w s e = spelled_is typed w s done ∙ rw e (ap Bytes (add-zero (length w)))
+there : (w s : List ℕ) → is_spelled typed w s ≡ true → literal w done s ≡ Some (length w)
+there w s e = spelled_is typed w s done ∙ rw e (ap Some (add-zero (length w)))
 
 or_true : (a b : Bool) → b ≡ true → (a || b) ≡ true
 or_true true b e = refl
 or_true false b e = e
 
-words_cover : (ws B : List (List ℕ)) (s : List ℕ) (n : ℕ) → first_word ws s ≡ Bytes n → any_spelled B (drop n s) ≡ true → any_spelled (pairs ws B) s ≡ true
+words_cover : (ws B : List (List ℕ)) (s : List ℕ) (n : ℕ) → first_word ws s ≡ Some n → any_spelled B (drop n s) ≡ true → any_spelled (pairs ws B) s ≡ true
 unfolding first_word
 words_cover [] B s n e a = not_fails n e
 words_cover (w ∷ ws) B s n e a = any_append (prefixed w B) (pairs ws B) s ∙ go (is_spelled typed w s) refl (words_cover ws B s n)
   where
-    go : (t : Bool) → is_spelled typed w s ≡ t → (first_word ws s ≡ Bytes n → any_spelled B (drop n s) ≡ true → any_spelled (pairs ws B) s ≡ true) → (any_spelled (prefixed w B) s || any_spelled (pairs ws B) s) ≡ true
+    go : (t : Bool) → is_spelled typed w s ≡ t → (first_word ws s ≡ Some n → any_spelled B (drop n s) ≡ true → any_spelled (pairs ws B) s ≡ true) → (any_spelled (prefixed w B) s || any_spelled (pairs ws B) s) ≡ true
     go true q ih =
-        let f : Bytes (length w) ≡ Bytes n = rw (there w s q) at e in
+        let f : Some (length w) ≡ Some n = rw (there w s q) at e in
         let l : length w ≡ n = cc in
         rw (any_prefixed w B s q, l, a)
     go false q ih = or_true (any_spelled (prefixed w B) s) (any_spelled (pairs ws B) s) (ih (rw (not_there w done s q) at e) a)
 
-covers : (c : Choice) (B : List (List ℕ)) (s : List ℕ) (n : ℕ) → choose c s ≡ Bytes n → any_spelled B (drop n s) ≡ true → any_spelled (written c B) s ≡ true
+covers : (c : Choice) (B : List (List ℕ)) (s : List ℕ) (n : ℕ) → choose c s ≡ Some n → any_spelled B (drop n s) ≡ true → any_spelled (written c B) s ≡ true
 unfolding choose
 covers (words ws) B s n e a = words_cover ws B s n e a
 covers (both c d) B s n e a = go (choose c s) refl e (λ k. covers c (written d B) s k) (λ k m. covers d B (drop k s) m)
   where
-    go : (t : Taken) → choose c s ≡ t → behind t (choose d) s ≡ Bytes n → ((k : ℕ) → choose c s ≡ Bytes k → any_spelled (written d B) (drop k s) ≡ true → any_spelled (written c (written d B)) s ≡ true)
-        → ((k m : ℕ) → choose d (drop k s) ≡ Bytes m → any_spelled B (drop m (drop k s)) ≡ true → any_spelled (written d B) (drop k s) ≡ true) → any_spelled (written c (written d B)) s ≡ true
-    go (Bytes k) q f ih jh =
+    go : (t : Option ℕ) → choose c s ≡ t → behind t (choose d) s ≡ Some n → ((k : ℕ) → choose c s ≡ Some k → any_spelled (written d B) (drop k s) ≡ true → any_spelled (written c (written d B)) s ≡ true)
+        → ((k m : ℕ) → choose d (drop k s) ≡ Some m → any_spelled B (drop m (drop k s)) ≡ true → any_spelled (written d B) (drop k s) ≡ true) → any_spelled (written c (written d B)) s ≡ true
+    go (Some k) q f ih jh =
         let l = left_of k (choose d (drop k s)) n f in
         ih k q (jh k l.left l.is (rw (drop-drop l.left k s, ← l.sum) a))
-    go Fails q f ih jh = not_fails n f
+    go None q f ih jh = not_fails n f
 covers (either c d) B s n e a = any_append (written c B) (written d B) s ∙ go (choose c s) refl e (covers c B s n) (covers d B s n)
   where
-    go : (t : Taken) → choose c s ≡ t → or t (choose d s) ≡ Bytes n → (choose c s ≡ Bytes n → any_spelled B (drop n s) ≡ true → any_spelled (written c B) s ≡ true)
-        → (choose d s ≡ Bytes n → any_spelled B (drop n s) ≡ true → any_spelled (written d B) s ≡ true) → (any_spelled (written c B) s || any_spelled (written d B) s) ≡ true
-    go (Bytes k) q f ih jh = rw (ih (q ∙ f) a)
-    go Fails q f ih jh = or_true (any_spelled (written c B) s) (any_spelled (written d B) s) (jh f a)
+    go : (t : Option ℕ) → choose c s ≡ t → or t (choose d s) ≡ Some n → (choose c s ≡ Some n → any_spelled B (drop n s) ≡ true → any_spelled (written c B) s ≡ true)
+        → (choose d s ≡ Some n → any_spelled B (drop n s) ≡ true → any_spelled (written d B) s ≡ true) → (any_spelled (written c B) s || any_spelled (written d B) s) ≡ true
+    go (Some k) q f ih jh = rw (ih (q ∙ f) a)
+    go None q f ih jh = or_true (any_spelled (written c B) s) (any_spelled (written d B) s) (jh f a)
 covers (maybe c) B s n e a = any_append (written c B) B s ∙ go (choose c s) refl e (covers c B s n)
   where
-    go : (t : Taken) → choose c s ≡ t → or t (Bytes 0) ≡ Bytes n → (choose c s ≡ Bytes n → any_spelled B (drop n s) ≡ true → any_spelled (written c B) s ≡ true) → (any_spelled (written c B) s || any_spelled B s) ≡ true
-    go (Bytes k) q f ih = rw (ih (q ∙ f) a)
-    go Fails q f ih = let z : 0 ≡ n = cc in or_true (any_spelled (written c B) s) (any_spelled B s) (rw (← z) at a)
+    go : (t : Option ℕ) → choose c s ≡ t → or t (Some 0) ≡ Some n → (choose c s ≡ Some n → any_spelled B (drop n s) ≡ true → any_spelled (written c B) s ≡ true) → (any_spelled (written c B) s || any_spelled B s) ≡ true
+    go (Some k) q f ih = rw (ih (q ∙ f) a)
+    go None q f ih = let z : 0 ≡ n = cc in or_true (any_spelled (written c B) s) (any_spelled B s) (rw (← z) at a)
 
 -- the words of a choice
 abbrev pub own : Choice → List (List ℕ)
 own c = written c ([] ∷ [])
 
-excludes : (c : Choice) (B : List (List ℕ)) (then : Taker) (s : List ℕ) (n : ℕ) → choose c s ≡ Bytes n → all_apart (own c) B ≡ true → first_then B then s ≡ Fails
+excludes : (c : Choice) (B : List (List ℕ)) (then : Taker) (s : List ℕ) (n : ℕ) → choose c s ≡ Some n → all_apart (own c) B ≡ true → first_then B then s ≡ None
 unfolding is_spelled
 excludes c B then s n e a = any_apart (own c) B then s (covers c ([] ∷ []) s n e refl) a
 
@@ -189,20 +188,20 @@ clear (both a b) B = clear a (written b B) && clear b B
 clear (either a b) B = (clear a B && clear b B) && all_apart (own a) (written b B)
 clear (maybe a) B = clear a B && all_apart (own a) B
 
-or_behind : (t : Taken) (a b : Taker) (s : List ℕ) → or (behind t a s) (behind t b s) ≡ behind t (λ u. or (a u) (b u)) s
-or_behind (Bytes n) a b s = go (a (drop n s))
+or_behind : (t : Option ℕ) (a b : Taker) (s : List ℕ) → or (behind t a s) (behind t b s) ≡ behind t (λ u. or (a u) (b u)) s
+or_behind (Some n) a b s = go (a (drop n s))
   where
-    go : (u : Taken) → or (more n u) (more n (b (drop n s))) ≡ more n (or u (b (drop n s)))
-    go (Bytes m) = refl
-    go Fails = refl
-or_behind Fails a b s = refl
+    go : (u : Option ℕ) → or (more n u) (more n (b (drop n s))) ≡ more n (or u (b (drop n s)))
+    go (Some m) = refl
+    go None = refl
+or_behind None a b s = refl
 
 prefixed_then : (w : List ℕ) (B : List (List ℕ)) (then : Taker) (s : List ℕ) → first_then (prefixed w B) then s ≡ behind (literal w done s) (first_then B then) s
 prefixed_then w [] then s = go (literal w done s)
   where
-    go : (t : Taken) → Fails ≡ behind t (λ u. Fails) s
-    go (Bytes n) = refl
-    go Fails = refl
+    go : (t : Option ℕ) → None ≡ behind t (λ u. None) s
+    go (Some n) = refl
+    go None = refl
 prefixed_then w (x ∷ B) then s =
     rw (literal_append w x then s, literal_behind w (literal x then) s, prefixed_then w B then s) (or_behind (literal w done s) (literal x then) (first_then B then) s)
 
@@ -222,7 +221,7 @@ words_commit (w ∷ ws) B then s h =
     go : (t : Bool) → is_spelled typed w s ≡ t → apart_from w ws ≡ true → behind (first_word ws s) (first_then B then) s ≡ first_then (pairs ws B) then s
         → behind (or (literal w done s) (first_word ws s)) (first_then B then) s ≡ or (behind (literal w done s) (first_then B then) s) (first_then (pairs ws B) then s)
     go true q o ih =
-        let none : first_word ws s ≡ Fails = first_word_is ws s ∙ apart_fails w ws done s q o in
+        let none : first_word ws s ≡ None = first_word_is ws s ∙ apart_fails w ws done s q o in
         rw (← ih, none, or_fails (literal w done s)) (sym (or_fails (behind (literal w done s) (first_then B then) s)))
     go false q o ih = rw (not_there w done s q) ih
 
@@ -240,15 +239,15 @@ commits (either a b) B then s h =
     go (choose a s) refl h₂.1 (commits b B then s h₃.1)
     ∙ sym (first_then_append (written a B) (written b B) then s ∙ rw (commits a B then s h₃.0))
   where
-    go : (t : Taken) → choose a s ≡ t → all_apart (own a) (written b B) ≡ true → behind (choose b s) (first_then B then) s ≡ first_then (written b B) then s
+    go : (t : Option ℕ) → choose a s ≡ t → all_apart (own a) (written b B) ≡ true → behind (choose b s) (first_then B then) s ≡ first_then (written b B) then s
         → behind (or t (choose b s)) (first_then B then) s ≡ or (behind t (first_then B then) s) (first_then (written b B) then s)
-    go (Bytes n) q o jh = rw (excludes a (written b B) then s n q o) (sym (or_fails (more n (first_then B then (drop n s)))))
-    go Fails q o jh = jh
+    go (Some n) q o jh = rw (excludes a (written b B) then s n q o) (sym (or_fails (more n (first_then B then (drop n s)))))
+    go None q o jh = jh
 commits (maybe a) B then s h =
     let h₂ = (and-eq-true_iff (clear a B) (all_apart (own a) B)).0 h in
     go (choose a s) refl h₂.1
     ∙ sym (first_then_append (written a B) B then s ∙ rw (commits a B then s h₂.0))
   where
-    go : (t : Taken) → choose a s ≡ t → all_apart (own a) B ≡ true → behind (or t (Bytes 0)) (first_then B then) s ≡ or (behind t (first_then B then) s) (first_then B then s)
-    go (Bytes n) q o = rw (excludes a B then s n q o) (sym (or_fails (more n (first_then B then (drop n s)))))
-    go Fails q o = more_zero (first_then B then s)
+    go : (t : Option ℕ) → choose a s ≡ t → all_apart (own a) B ≡ true → behind (or t (Some 0)) (first_then B then) s ≡ or (behind t (first_then B then) s) (first_then B then s)
+    go (Some n) q o = rw (excludes a B then s n q o) (sym (or_fails (more n (first_then B then (drop n s)))))
+    go None q o = more_zero (first_then B then s)

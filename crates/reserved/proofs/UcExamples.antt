@@ -1,5 +1,6 @@
 -- The Rust's own way on small inputs, computed.
 -- Assumes nothing.
+use Rattle.std.proofs.Common.{Some, None}
 use mathlib.Core.Path.{◌≡◌, refl}
 use mathlib.Core.Bool.{false}
 use mathlib.Core.List.{[], ◌∷◌, ◌++◌}
@@ -12,7 +13,6 @@ use Rattle.characters.specs.Connector.{connector}
 use Rattle.characters.specs.Classes.{is_whitespace, is_alphabetic, is_numeric, is_mark, is_punctuation_connector, is_alphanumeric, is_word_character}
 use Rattle.characters.specs.Character.{is_continuation, continuations, continued, first_bits, with_bits, code_point}
 use Rattle.characters.specs.Runs.{run}
-use Rattle.recognisers.specs.declared.Taken.TheVariants.{Bytes, Fails}
 use Rattle.recognisers.specs.Text.{bytes}
 use Rattle.recognisers.specs.Taking.{one, spelled, is_spelled, typed, capital, end_of_word}
 use Rattle.reserved.specs.Phrases.{phrase, phrase_if_exists, walk, phrase_end}
@@ -33,7 +33,7 @@ last_word_lem : last_word (bytes "DROP TABLE IF EXISTS") ≡ bytes "EXISTS"
 unfolding last_word split_whitespace run is_whitespace in_ranges within white_space code_point continuations continued is_continuation first_bits with_bits
 last_word_lem = refl
 
-order_by : phrase_by_uc_words 4 (phrase (bytes "ORDER BY")) (bytes "order  by x") ≡ Bytes 9
+order_by : phrase_by_uc_words 4 (phrase (bytes "ORDER BY")) (bytes "order  by x") ≡ Some 9
 unfolding phrase_by_uc_words uc_phrase spelled one typed end_of_word finalize last_word find is_spelled get_uc_words split_whitespace run is_whitespace in_ranges within white_space code_point continuations continued is_continuation first_bits with_bits capital is_word_character is_alphanumeric is_alphabetic is_numeric is_mark is_punctuation_connector alphabetic numeric mark connector
 order_by = refl
 
@@ -42,22 +42,22 @@ by_in_order : finalize (bytes "BYTES BY") (bytes "BYTES BY") ≡ 2
 unfolding finalize last_word find is_spelled typed split_whitespace run is_whitespace in_ranges within white_space code_point continuations continued is_continuation first_bits with_bits capital
 by_in_order = refl
 
-drop_exists : phrase_by_uc_words 4 (phrase_if_exists (bytes "DROP VIEW")) (bytes "drop view if  exists v") ≡ Bytes 20
+drop_exists : phrase_by_uc_words 4 (phrase_if_exists (bytes "DROP VIEW")) (bytes "drop view if  exists v") ≡ Some 20
 unfolding phrase_by_uc_words uc_phrase opt spelled one typed end_of_word finalize last_word find is_spelled get_uc_words split_whitespace run is_whitespace in_ranges within white_space code_point continuations continued is_continuation first_bits with_bits capital is_word_character is_alphanumeric is_alphabetic is_numeric is_mark is_punctuation_connector alphabetic numeric mark connector
 drop_exists = refl
 
 -- no way back from IF EXISTS
-drop_exists_no : phrase_by_uc_words 4 (phrase_if_exists (bytes "DROP VIEW")) (bytes "drop view if existsx") ≡ Fails
+drop_exists_no : phrase_by_uc_words 4 (phrase_if_exists (bytes "DROP VIEW")) (bytes "drop view if existsx") ≡ None
 unfolding phrase_by_uc_words uc_phrase opt spelled one typed end_of_word finalize last_word find is_spelled get_uc_words split_whitespace run is_whitespace in_ranges within white_space code_point continuations continued is_continuation first_bits with_bits capital is_word_character is_alphanumeric is_alphabetic is_numeric is_mark is_punctuation_connector alphabetic numeric mark connector
 drop_exists_no = refl
 
 -- Where a text begins with whitespace, the two ways differ: `get_uc_words` passes over it. The Rust does not ask there,
 -- since a reserved word begins with a letter or `$`.
-space_go : phrase_by_uc_words 4 (phrase (bytes "GO")) (bytes " GO") ≡ Bytes 3
+space_go : phrase_by_uc_words 4 (phrase (bytes "GO")) (bytes " GO") ≡ Some 3
 unfolding phrase_by_uc_words uc_phrase spelled one typed end_of_word finalize last_word find is_spelled get_uc_words split_whitespace run is_whitespace in_ranges within white_space code_point continuations continued is_continuation first_bits with_bits capital is_word_character is_alphanumeric is_alphabetic is_numeric is_mark is_punctuation_connector alphabetic numeric mark connector
 space_go = refl
 
-space_go_walk : phrase_end (phrase (bytes "GO")) (bytes " GO") ≡ Fails
+space_go_walk : phrase_end (phrase (bytes "GO")) (bytes " GO") ≡ None
 unfolding phrase_end walk one capital within
 space_go_walk = refl
 

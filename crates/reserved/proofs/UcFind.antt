@@ -1,6 +1,7 @@
 -- The first occurrence of a phrase's last word in the text is where it is in the phrase: an occurrence begins in no gap
 -- between two words, and crosses none.
 -- Assumes nothing.
+use Rattle.std.proofs.Common.{Option, Some, None}
 use Prim.Native.Nat.{ℕ, zero, suc, ◌+◌, ◌≤◌}
 use native.Mathlib.Nat.{le_of_suc-le-suc, not-suc-le-zero}
 use native.Mathlib.Numerals.{one-add}
@@ -15,8 +16,6 @@ use Rattle.characters.specs.Ranges.{within}
 use Rattle.characters.specs.Classes.{is_whitespace}
 use Rattle.characters.specs.Character.{is_continuation, continuations, continued, code_point}
 use Rattle.characters.specs.Runs.{run}
-use Rattle.recognisers.specs.declared.Taken.{Taken}
-use Rattle.recognisers.specs.declared.Taken.TheVariants.{Bytes, Fails}
 use Rattle.recognisers.specs.Taking.{taken, more, done, typed, is_spelled, capital}
 use Rattle.recognisers.proofs.Spelling.{not_fails, more_zero, more_more}
 use Rattle.reserved.specs.Phrases.{walk}
@@ -26,14 +25,14 @@ use Rattle.reserved.proofs.UcAhead.{begins, letter_yes, letter_no, letter_end, g
 
 -- ---- a part that took bytes
 
-pub record Left (n : ℕ) (t : Taken) (m : ℕ) : Type 0 where
+pub record Left (n : ℕ) (t : Option ℕ) (m : ℕ) : Type 0 where
   pub left : ℕ
-  pub is : t ≡ Bytes left
+  pub is : t ≡ Some left
   pub sum : m ≡ n + left
 
-pub left_of : (n : ℕ) (t : Taken) (m : ℕ) → more n t ≡ Bytes m → Left n t m
-left_of n (Bytes k) m e = record { left = k; is = refl; sum = let f : n + k ≡ m = cc in sym f }
-left_of n Fails m e = not_fails m e
+pub left_of : (n : ℕ) (t : Option ℕ) (m : ℕ) → more n t ≡ Some m → Left n t m
+left_of n (Some k) m e = record { left = k; is = refl; sum = let f : n + k ≡ m = cc in sym f }
+left_of n None m e = not_fails m e
 
 -- what a walk has at its start
 module _ (words s : List ℕ) (m : ℕ) where
@@ -41,14 +40,14 @@ module _ (words s : List ℕ) (m : ℕ) where
     pub white : is_whitespace (code_point s) ≡ true
     pub rest : Left (run is_whitespace 0 s) (walk words done (trim_start s)) m
 
-  pub gap_of_lem : walk (32 ∷ words) done s ≡ Bytes m → Gap
+  pub gap_of_lem : walk (32 ∷ words) done s ≡ Some m → Gap
   gap_of_lem e = go (is_whitespace (code_point s)) refl
     where
       go : (t : Bool) → is_whitespace (code_point s) ≡ t → Gap
       go true w = record { white = w; rest = left_of (run is_whitespace 0 s) (walk words done (trim_start s)) m (sym (gap_yes done words s w) ∙ e) }
       go false w = not_fails m (sym (gap_no done words s w) ∙ e)
 
-pub no_letter_at_end : {P : Type 0} (p : ℕ) (words : List ℕ) (m : ℕ) → eqb p 32 ≡ false → walk (p ∷ words) done [] ≡ Bytes m → P
+pub no_letter_at_end : {P : Type 0} (p : ℕ) (words : List ℕ) (m : ℕ) → eqb p 32 ≡ false → walk (p ∷ words) done [] ≡ Some m → P
 no_letter_at_end p words m o e = not_fails m (sym (letter_end done p words o) ∙ e)
 
 module _ (p : ℕ) (words : List ℕ) (b : ℕ) (s : List ℕ) (m : ℕ) where
@@ -56,7 +55,7 @@ module _ (p : ℕ) (words : List ℕ) (b : ℕ) (s : List ℕ) (m : ℕ) where
     pub same : capital b ≡ p
     pub rest : Left 1 (walk words done s) m
 
-  pub letter_of : eqb p 32 ≡ false → walk (p ∷ words) done (b ∷ s) ≡ Bytes m → Letter
+  pub letter_of : eqb p 32 ≡ false → walk (p ∷ words) done (b ∷ s) ≡ Some m → Letter
   letter_of o e = go (eqb (capital b) p) refl
     where
       go : (t : Bool) → eqb (capital b) p ≡ t → Letter
@@ -77,7 +76,7 @@ hidden_other : (c x : ℕ) → is_visible c ≡ true → is_visible x ≡ false 
 hidden_other c x v h = ne_eqb x c (λ e. false≢true (sym h ∙ (rw e v)))
 
 -- it stands in the text where it stands in the phrase
-same_spelled : (word words s : List ℕ) (m : ℕ) → walk words done s ≡ Bytes m → all_visible word ≡ true → length word ≤ length words
+same_spelled : (word words s : List ℕ) (m : ℕ) → walk words done s ≡ Some m → all_visible word ≡ true → length word ≤ length words
     → is_spelled typed word (to_ascii_uppercase s) ≡ is_spelled typed word words
 unfolding is_spelled typed
 same_spelled [] words s m e v l = refl
@@ -86,12 +85,12 @@ same_spelled (c ∷ word) (p ∷ words) s m e v l =
     let v₂ = (and-eq-true_iff (is_visible c) (all_visible word)).0 v in
     go (eqb p 32) refl s e v₂.0 (λ t k q. same_spelled word words t k q v₂.1 (le_of_suc-le-suc l))
   where
-    space : (s : List ℕ) → walk (32 ∷ words) done s ≡ Bytes m → is_visible c ≡ true → is_spelled typed (c ∷ word) (to_ascii_uppercase s) ≡ false
+    space : (s : List ℕ) → walk (32 ∷ words) done s ≡ Some m → is_visible c ≡ true → is_spelled typed (c ∷ word) (to_ascii_uppercase s) ≡ false
     space [] f u = refl
     space (b ∷ s) f u = rw (hidden_other c (capital b) u (white_hidden b s (gap_of_lem words (b ∷ s) m f).white))
 
-    go : (t : Bool) → eqb p 32 ≡ t → (s : List ℕ) → walk (p ∷ words) done s ≡ Bytes m → is_visible c ≡ true
-        → ((t : List ℕ) (k : ℕ) → walk words done t ≡ Bytes k → is_spelled typed word (to_ascii_uppercase t) ≡ is_spelled typed word words)
+    go : (t : Bool) → eqb p 32 ≡ t → (s : List ℕ) → walk (p ∷ words) done s ≡ Some m → is_visible c ≡ true
+        → ((t : List ℕ) (k : ℕ) → walk words done t ≡ Some k → is_spelled typed word (to_ascii_uppercase t) ≡ is_spelled typed word words)
         → is_spelled typed (c ∷ word) (to_ascii_uppercase s) ≡ (eqb p c && is_spelled typed word words)
     go true q s f u ih =
         let r = eqb-true p 32 q in
@@ -102,7 +101,7 @@ same_spelled (c ∷ word) (p ∷ words) s m e v l =
         rw (a.same, ih s a.rest.left a.rest.is)
 
 -- a phrase that is one word takes as many bytes as the word has
-full_walk : (word words s : List ℕ) (m : ℕ) → walk words done s ≡ Bytes m → all_visible word ≡ true → is_spelled typed word words ≡ true → length word ≡ length words → m ≡ length word
+full_walk : (word words s : List ℕ) (m : ℕ) → walk words done s ≡ Some m → all_visible word ≡ true → is_spelled typed word words ≡ true → length word ≡ length words → m ≡ length word
 unfolding is_spelled typed walk
 full_walk [] [] s m e v i l = let f : 0 ≡ m = cc in sym f
 full_walk [] (p ∷ words) s m e v i l = absurd (let z : ⊥ = omega arith in z)
@@ -114,7 +113,7 @@ full_walk (c ∷ word) (p ∷ words) s m e v i l =
     let o : eqb p 32 ≡ false = ne_eqb p 32 (λ r. eqb-false 32 c (visible_no_space c v₂.0) (sym r ∙ q)) in
     go s e o (λ t k f. full_walk word words t k f v₂.1 i₂.1 (let g : length word ≡ length words = omega arith in g))
   where
-    go : (s : List ℕ) → walk (p ∷ words) done s ≡ Bytes m → eqb p 32 ≡ false → ((t : List ℕ) (k : ℕ) → walk words done t ≡ Bytes k → k ≡ length word) → m ≡ suc (length word)
+    go : (s : List ℕ) → walk (p ∷ words) done s ≡ Some m → eqb p 32 ≡ false → ((t : List ℕ) (k : ℕ) → walk words done t ≡ Some k → k ≡ length word) → m ≡ suc (length word)
     go [] f o ih = no_letter_at_end p words m o f
     go (b ∷ s) f o ih =
         let a = letter_of p words b s m o f in
@@ -168,16 +167,16 @@ module _ (c : ℕ) (word : List ℕ) (v : is_visible c ≡ true) where
 -- ---- `find` in the text, by `find` in the phrase
 
 -- it was found, and ends at m
-record FoundEnd (t : Taken) (size m : ℕ) : Type 0 where
+record FoundEnd (t : Option ℕ) (size m : ℕ) : Type 0 where
   place : ℕ
-  is : t ≡ Bytes place
+  is : t ≡ Some place
   ends : place + size ≡ m
 
 module _ (c : ℕ) (word : List ℕ) (v : is_visible c ≡ true) (vs : all_visible (c ∷ word) ≡ true) where
   abbrev last : List ℕ
   last = c ∷ word
 
-  here : (x : ℕ) (u : List ℕ) → is_spelled typed last (x ∷ u) ≡ true → find last (x ∷ u) ≡ Bytes 0
+  here : (x : ℕ) (u : List ℕ) → is_spelled typed last (x ∷ u) ≡ true → find last (x ∷ u) ≡ Some 0
   unfolding find
   here x u e = rw e
 
@@ -199,17 +198,17 @@ module _ (c : ℕ) (word : List ℕ) (v : is_visible c ≡ true) (vs : all_visib
         ends = let g = f.ends in omega arith;
       }
 
-  find_walk : (words s : List ℕ) (m k : ℕ) → walk words done s ≡ Bytes m → find last words ≡ Bytes k → k + suc (length word) ≡ length words
+  find_walk : (words s : List ℕ) (m k : ℕ) → walk words done s ≡ Some m → find last words ≡ Some k → k + suc (length word) ≡ length words
       → FoundEnd (find last (to_ascii_uppercase s)) (suc (length word)) m
   find_walk [] s m k e f l = absurd (let z : ⊥ = omega arith in z)
   find_walk (p ∷ words) s m k e f l = go (eqb p 32) refl s e (λ t n j. find_walk words t n j)
     where
       Rest : Type 0
-      Rest = (t : List ℕ) (n j : ℕ) → walk words done t ≡ Bytes n → find last words ≡ Bytes j → j + suc (length word) ≡ length words → FoundEnd (find last (to_ascii_uppercase t)) (suc (length word)) n
+      Rest = (t : List ℕ) (n j : ℕ) → walk words done t ≡ Some n → find last words ≡ Some j → j + suc (length word) ≡ length words → FoundEnd (find last (to_ascii_uppercase t)) (suc (length word)) n
 
-      letter : (b : ℕ) (s : List ℕ) → walk (p ∷ words) done (b ∷ s) ≡ Bytes m → Letter p words b s m → Rest → (t : Bool) → is_spelled typed last (p ∷ words) ≡ t → FoundEnd (find last (to_ascii_uppercase (b ∷ s))) (suc (length word)) m
+      letter : (b : ℕ) (s : List ℕ) → walk (p ∷ words) done (b ∷ s) ≡ Some m → Letter p words b s m → Rest → (t : Bool) → is_spelled typed last (p ∷ words) ≡ t → FoundEnd (find last (to_ascii_uppercase (b ∷ s))) (suc (length word)) m
       letter b s w a ih true i =
-          let z : Bytes 0 ≡ Bytes k = sym (here p words i) ∙ f in
+          let z : Some 0 ≡ Some k = sym (here p words i) ∙ f in
           let k0 : 0 ≡ k = cc in
           let whole = full_walk last (p ∷ words) (b ∷ s) m w vs i (omega arith) in
           let there : is_spelled typed last (to_ascii_uppercase (b ∷ s)) ≡ true = same_spelled last (p ∷ words) (b ∷ s) m w vs (omega arith) ∙ i in
@@ -221,7 +220,7 @@ module _ (c : ℕ) (word : List ℕ) (v : is_visible c ≡ true) (vs : all_visib
           move 1 m (b ∷ s) s a.rest.left (later (capital b) (to_ascii_uppercase s) there) a.rest.sum
           (ih s a.rest.left j.left a.rest.is j.is (omega arith))
 
-      space : (s : List ℕ) → walk (32 ∷ words) done s ≡ Bytes m → find last (32 ∷ words) ≡ Bytes k → Rest → FoundEnd (find last (to_ascii_uppercase s)) (suc (length word)) m
+      space : (s : List ℕ) → walk (32 ∷ words) done s ≡ Some m → find last (32 ∷ words) ≡ Some k → Rest → FoundEnd (find last (to_ascii_uppercase s)) (suc (length word)) m
       space s w g ih =
           let a = gap_of_lem words s m w in
           let j = left_of 1 (find last words) k (sym (space_later words) ∙ g) in
@@ -229,35 +228,35 @@ module _ (c : ℕ) (word : List ℕ) (v : is_visible c ≡ true) (vs : all_visib
           move (run is_whitespace 0 s) m s (trim_start s) a.rest.left (trim_skips c word v s) a.rest.sum
           (ih (trim_start s) a.rest.left j.left a.rest.is j.is (omega arith))
 
-      go : (t : Bool) → eqb p 32 ≡ t → (s : List ℕ) → walk (p ∷ words) done s ≡ Bytes m → Rest → FoundEnd (find last (to_ascii_uppercase s)) (suc (length word)) m
+      go : (t : Bool) → eqb p 32 ≡ t → (s : List ℕ) → walk (p ∷ words) done s ≡ Some m → Rest → FoundEnd (find last (to_ascii_uppercase s)) (suc (length word)) m
       go true q s w ih = let r = eqb-true p 32 q in space s (rw r at w) (rw r at f) ih
       go false q [] w ih = no_letter_at_end p words m q w
       go false q (b ∷ s) w ih = letter b s w (letter_of p words b s m q w) ih (is_spelled typed last (p ∷ words)) refl
 
 -- ---- `finalize`
 
-abbrev ends_at : Taken → ℕ → ℕ → Bool
-ends_at (Bytes k) size m = eqb (k + size) m
-ends_at Fails size m = false
+abbrev ends_at : Option ℕ → ℕ → ℕ → Bool
+ends_at (Some k) size m = eqb (k + size) m
+ends_at None size m = false
 
 -- the last word of a phrase is visible, and its first occurrence in the phrase is its own place
 abbrev pub ends_itself : List ℕ → List ℕ → Bool
 ends_itself words last = begins last && (all_visible last && ends_at (find last words) (length last) (length words))
 
-ends_walk : (words last s : List ℕ) (m : ℕ) → ends_itself words last ≡ true → walk words done s ≡ Bytes m → taken (find last (to_ascii_uppercase s)) + length last ≡ m
+ends_walk : (words last s : List ℕ) (m : ℕ) → ends_itself words last ≡ true → walk words done s ≡ Some m → taken (find last (to_ascii_uppercase s)) + length last ≡ m
 ends_walk words [] s m o e = absurd (false≢true o)
 ends_walk words (c ∷ word) s m o e =
     let o₂ = (and-eq-true_iff (is_visible c) (all_visible (c ∷ word) && ends_at (find (c ∷ word) words) (suc (length word)) (length words))).0 o in
     let o₃ = (and-eq-true_iff (all_visible (c ∷ word)) (ends_at (find (c ∷ word) words) (suc (length word)) (length words))).0 o₂.1 in
     go o₂.0 o₃.0 (find (c ∷ word) words) refl o₃.1
   where
-    go : is_visible c ≡ true → all_visible (c ∷ word) ≡ true → (t : Taken) → find (c ∷ word) words ≡ t → ends_at t (suc (length word)) (length words) ≡ true
+    go : is_visible c ≡ true → all_visible (c ∷ word) ≡ true → (t : Option ℕ) → find (c ∷ word) words ≡ t → ends_at t (suc (length word)) (length words) ≡ true
         → taken (find (c ∷ word) (to_ascii_uppercase s)) + suc (length word) ≡ m
-    go v vs (Bytes k) f l =
+    go v vs (Some k) f l =
         let r = find_walk c word v vs words s m k e f (eqb-true (k + suc (length word)) (length words) l) in
         rw r.is r.ends
-    go v vs Fails f l = absurd (false≢true l)
+    go v vs None f l = absurd (false≢true l)
 
-pub finalize_walk : (words s : List ℕ) (m : ℕ) → ends_itself words (last_word words) ≡ true → walk words done s ≡ Bytes m → finalize s words ≡ m
+pub finalize_walk : (words s : List ℕ) (m : ℕ) → ends_itself words (last_word words) ≡ true → walk words done s ≡ Some m → finalize s words ≡ m
 unfolding finalize
 finalize_walk words s m o e = ends_walk words (last_word words) s m o e

@@ -2,6 +2,7 @@
 --     top_level_agrees .. plain_one_agrees   on any bytes that do not begin with whitespace, a group's first phrase takes
 --                                            as many bytes as what the Rust finds
 -- Assumes nothing.
+use Rattle.std.proofs.Common.{Option, Some, None}
 use Prim.Native.Nat.{ℕ}
 use mathlib.Core.Path.{◌≡◌, refl, sym, ◌∙◌}
 use mathlib.Core.List.{List, [], ◌∷◌, ◌++◌}
@@ -11,8 +12,6 @@ use Rattle.characters.specs.WhiteSpace.{white_space}
 use Rattle.characters.specs.Classes.{is_whitespace}
 use Rattle.characters.specs.Character.{is_continuation, continuations, continued, first_bits, with_bits, code_point}
 use Rattle.characters.specs.Runs.{run}
-use Rattle.recognisers.specs.declared.Taken.{Taken}
-use Rattle.recognisers.specs.declared.Taken.TheVariants.{Bytes, Fails}
 use Rattle.recognisers.specs.Text.{bytes}
 use Rattle.recognisers.specs.Taking.{or, typed, is_spelled}
 use Rattle.reserved.specs.Phrases.{Phrase, phrase, phrase_if_exists, phrase_end, first_phrase, each}
@@ -80,9 +79,9 @@ group_agrees n (p ∷ phrases) s h w =
     let h₂ = (and-eq-true_iff (own_ends n p) (all_own_ends n phrases)).0 h in
     either (uc_phrase p (get_uc_words n s)) ∙ rw (phrase_agrees n p s h₂.0 w, group_agrees n phrases s h₂.1 w)
   where
-    either : (t : Taken) → finalized s (get_uc_words n s) (or t (first_uc_phrase phrases (get_uc_words n s))) ≡ or (finalized s (get_uc_words n s) t) (finalized s (get_uc_words n s) (first_uc_phrase phrases (get_uc_words n s)))
-    either (Bytes k) = refl
-    either Fails = refl
+    either : (t : Option ℕ) → finalized s (get_uc_words n s) (or t (first_uc_phrase phrases (get_uc_words n s))) ≡ or (finalized s (get_uc_words n s) t) (finalized s (get_uc_words n s) (first_uc_phrase phrases (get_uc_words n s)))
+    either (Some k) = refl
+    either None = refl
 
 -- single words, by their own length
 abbrev all_plain : List Phrase → Bool

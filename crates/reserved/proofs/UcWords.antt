@@ -1,5 +1,6 @@
 -- The Rust's own way to a reserved phrase takes what `walk` takes, on any bytes that do not begin with whitespace.
 -- Assumes nothing.
+use Rattle.std.proofs.Common.{Option, Some, None}
 use Prim.Native.Nat.{ℕ, zero, suc}
 use native.Mathlib.Omega.{arith}
 use mathlib.Core.Path.{◌≡◌, refl, sym, ap, ◌∙◌}
@@ -11,8 +12,6 @@ use borrow.Author.Tests.{eqb-true}
 use Rattle.characters.specs.Classes.{is_whitespace, is_word_character}
 use Rattle.characters.specs.Character.{code_point}
 use Rattle.characters.specs.Runs.{run}
-use Rattle.recognisers.specs.declared.Taken.{Taken}
-use Rattle.recognisers.specs.declared.Taken.TheVariants.{Bytes, Fails}
 use Rattle.recognisers.specs.Text.{bytes}
 use Rattle.recognisers.specs.Taking.{Taker, more, done, one, typed, spelled, literal, end_of_word}
 use Rattle.recognisers.proofs.Spelling.{not_fails}
@@ -37,11 +36,11 @@ uc_ahead n (b ∷ s) w = rw (trim_none (b ∷ s) w)
 
 -- ---- what `.take()` gives
 
-end_takes_none : (s : List ℕ) (m : ℕ) → end_of_word s ≡ Bytes m → m ≡ 0
+end_takes_none : (s : List ℕ) (m : ℕ) → end_of_word s ≡ Some m → m ≡ 0
 unfolding end_of_word
 end_takes_none s m e = go (is_word_character (code_point s)) e
   where
-    go : (t : Bool) → cond t Fails (Bytes 0) ≡ Bytes m → m ≡ 0
+    go : (t : Bool) → cond t None (Some 0) ≡ Some m → m ≡ 0
     go true f = not_fails m f
     go false f = let g : 0 ≡ m = cc in sym g
 
@@ -50,15 +49,15 @@ record Token (words uc : List ℕ) (m : ℕ) : Type 0 where
   size : m ≡ length words
   is : take m uc ≡ words
 
-token_is : (words uc : List ℕ) (m : ℕ) → literal words end_of_word uc ≡ Bytes m → Token words uc m
+token_is : (words uc : List ℕ) (m : ℕ) → literal words end_of_word uc ≡ Some m → Token words uc m
 unfolding spelled one typed
 token_is [] uc m e = let z = end_takes_none uc m e in record { size = z; is = rw z }
 token_is (p ∷ words) [] m e = not_fails m e
 token_is (p ∷ words) (x ∷ uc) m e = go (eqb x p) refl (token_is words uc)
   where
-    go : (t : Bool) → eqb x p ≡ t → ((k : ℕ) → literal words end_of_word uc ≡ Bytes k → Token words uc k) → Token (p ∷ words) (x ∷ uc) m
+    go : (t : Bool) → eqb x p ≡ t → ((k : ℕ) → literal words end_of_word uc ≡ Some k → Token words uc k) → Token (p ∷ words) (x ∷ uc) m
     go true q ih =
-        let f : more 1 (literal words end_of_word uc) ≡ Bytes m = rw q at e in
+        let f : more 1 (literal words end_of_word uc) ≡ Some m = rw q at e in
         let l = left_of 1 (literal words end_of_word uc) m f in
         let r = ih l.left l.is in
         let sum = l.sum in
@@ -67,17 +66,17 @@ token_is (p ∷ words) (x ∷ uc) m e = go (eqb x p) refl (token_is words uc)
         record { size = omega arith; is = rw (m_is, eqb-true x p q, r.is) }
     go false q ih = not_fails m (rw q at e)
 
-walk_done : (words s : List ℕ) (m : ℕ) → walk words end_of_word s ≡ Bytes m → walk words done s ≡ Bytes m
+walk_done : (words s : List ℕ) (m : ℕ) → walk words end_of_word s ≡ Some m → walk words done s ≡ Some m
 walk_done words s m e = go (walk words done s) refl
   where
-    go : (t : Taken) → walk words done s ≡ t → walk words done s ≡ Bytes m
-    go (Bytes a) q =
-        let f : more a (end_of_word (drop a s)) ≡ Bytes m = ap (λ (t : Taken). behind t end_of_word s) (sym q) ∙ (sym (walk_and words end_of_word s) ∙ e) in
+    go : (t : Option ℕ) → walk words done s ≡ t → walk words done s ≡ Some m
+    go (Some a) q =
+        let f : more a (end_of_word (drop a s)) ≡ Some m = ap (λ (t : Option ℕ). behind t end_of_word s) (sym q) ∙ (sym (walk_and words end_of_word s) ∙ e) in
         let l = left_of a (end_of_word (drop a s)) m f in
         let z = end_takes_none (drop a s) l.left l.is in
         let sum = l.sum in
-        q ∙ ap Bytes (omega arith)
-    go Fails q = not_fails m (ap (λ (t : Taken). behind t end_of_word s) (sym q) ∙ (sym (walk_and words end_of_word s) ∙ e))
+        q ∙ ap Some (omega arith)
+    go None q = not_fails m (ap (λ (t : Option ℕ). behind t end_of_word s) (sym q) ∙ (sym (walk_and words end_of_word s) ∙ e))
 
 -- ---- one phrase
 
@@ -103,15 +102,15 @@ agrees (suc n) words s h w =
     go (literal words end_of_word (get_uc_words (suc n) s)) refl (walk words end_of_word s) refl
     (ap (λ (u : List ℕ). stands (literal words end_of_word u)) (uc_ahead n s w) ∙ stands_alike end_of_word end_of_word_alike words n s (is_phrase_lem n words h).shape)
   where
-    go : (t : Taken) → literal words end_of_word (get_uc_words (suc n) s) ≡ t → (u : Taken) → walk words end_of_word s ≡ u
+    go : (t : Option ℕ) → literal words end_of_word (get_uc_words (suc n) s) ≡ t → (u : Option ℕ) → walk words end_of_word s ≡ u
         → stands (literal words end_of_word (get_uc_words (suc n) s)) ≡ stands (walk words end_of_word s)
         → finalized s (get_uc_words (suc n) s) t ≡ u
-    go (Bytes k) e (Bytes m) f g =
-        ap Bytes
+    go (Some k) e (Some m) f g =
+        ap Some
         (ap (finalize s) (token_is words (get_uc_words (suc n) s) k e).is ∙ finalize_walk words s m (is_phrase_lem n words h).ends (walk_done words s m f))
-    go (Bytes k) e Fails f g = absurd (true≢false (ap stands (sym e) ∙ (g ∙ ap stands f)))
-    go Fails e (Bytes m) f g = absurd (false≢true (ap stands (sym e) ∙ (g ∙ ap stands f)))
-    go Fails e Fails f g = refl
+    go (Some k) e None f g = absurd (true≢false (ap stands (sym e) ∙ (g ∙ ap stands f)))
+    go None e (Some m) f g = absurd (false≢true (ap stands (sym e) ∙ (g ∙ ap stands f)))
+    go None e None f g = refl
 
 -- ---- with `opt`
 
@@ -127,24 +126,24 @@ module _ (first second : Taker → Taker) (f : Forward first) (g : Forward secon
   opt_yes : stands (first (second done) s) ≡ true → first maybe s ≡ first (second end_of_word) s
   opt_yes e = f maybe s ∙ go (first done s) (rw (f (second done) s) at e) ∙ sym (f (second end_of_word) s)
     where
-      inner : (n : ℕ) (t : Taken) → second done (drop n s) ≡ t → stands (more n t) ≡ true → after t end_of_word (drop n s) ≡ behind t end_of_word (drop n s)
-      inner n (Bytes k) q h = refl
-      inner n Fails q h = absurd (false≢true h)
+      inner : (n : ℕ) (t : Option ℕ) → second done (drop n s) ≡ t → stands (more n t) ≡ true → after t end_of_word (drop n s) ≡ behind t end_of_word (drop n s)
+      inner n (Some k) q h = refl
+      inner n None q h = absurd (false≢true h)
 
-      go : (t : Taken) → stands (behind t (second done) s) ≡ true → behind t maybe s ≡ behind t (second end_of_word) s
-      go (Bytes n) h = ap (more n) (inner n (second done (drop n s)) refl h ∙ sym (g end_of_word (drop n s)))
-      go Fails h = refl
+      go : (t : Option ℕ) → stands (behind t (second done) s) ≡ true → behind t maybe s ≡ behind t (second end_of_word) s
+      go (Some n) h = ap (more n) (inner n (second done (drop n s)) refl h ∙ sym (g end_of_word (drop n s)))
+      go None h = refl
 
   opt_no : stands (first (second done) s) ≡ false → first maybe s ≡ first end_of_word s
   opt_no e = f maybe s ∙ go (first done s) (rw (f (second done) s) at e) ∙ sym (f end_of_word s)
     where
-      inner : (n : ℕ) (t : Taken) → stands (more n t) ≡ false → after t end_of_word (drop n s) ≡ end_of_word (drop n s)
-      inner n (Bytes k) h = absurd (true≢false h)
-      inner n Fails h = refl
+      inner : (n : ℕ) (t : Option ℕ) → stands (more n t) ≡ false → after t end_of_word (drop n s) ≡ end_of_word (drop n s)
+      inner n (Some k) h = absurd (true≢false h)
+      inner n None h = refl
 
-      go : (t : Taken) → stands (behind t (second done) s) ≡ false → behind t maybe s ≡ behind t end_of_word s
-      go (Bytes n) h = ap (more n) (inner n (second done (drop n s)) h)
-      go Fails h = refl
+      go : (t : Option ℕ) → stands (behind t (second done) s) ≡ false → behind t maybe s ≡ behind t end_of_word s
+      go (Some n) h = ap (more n) (inner n (second done (drop n s)) h)
+      go None h = refl
 
 walk_append : (words more : List ℕ) (then : Taker) (s : List ℕ) → walk (words ++ more) then s ≡ walk words (walk more then) s
 unfolding walk
@@ -193,12 +192,12 @@ module _ (n : ℕ) (words s : List ℕ) (h : is_phrase n words ≡ true) (w : is
 
 -- ---- a phrase of one word, which is taken by its own length
 
-single_walk : (words s : List ℕ) (m : ℕ) → shaped 0 words ≡ true → walk words done s ≡ Bytes m → m ≡ length words
+single_walk : (words s : List ℕ) (m : ℕ) → shaped 0 words ≡ true → walk words done s ≡ Some m → m ≡ length words
 unfolding walk
 single_walk [] s m h e = let f : 0 ≡ m = cc in sym f
 single_walk (p ∷ words) s m h e = go (eqb p 32) refl s e (single_walk words)
   where
-    go : (t : Bool) → eqb p 32 ≡ t → (s : List ℕ) → walk (p ∷ words) done s ≡ Bytes m → ((t : List ℕ) (k : ℕ) → shaped 0 words ≡ true → walk words done t ≡ Bytes k → k ≡ length words) → m ≡ suc (length words)
+    go : (t : Bool) → eqb p 32 ≡ t → (s : List ℕ) → walk (p ∷ words) done s ≡ Some m → ((t : List ℕ) (k : ℕ) → shaped 0 words ≡ true → walk words done t ≡ Some k → k ≡ length words) → m ≡ suc (length words)
     go true q s f ih = no_gap words (rw (eqb-true p 32 q) at h)
     go false q [] f ih = no_letter_at_end p words m q f
     go false q (b ∷ s) f ih =
@@ -211,11 +210,11 @@ pub agrees_one : (words s : List ℕ) → is_phrase 1 words ≡ true → is_whit
 unfolding phrase_by_uc_words uc_phrase
 agrees_one words s h w = go (literal words end_of_word (get_uc_words 1 s)) refl (walk words end_of_word s) refl (agrees 1 words s h w)
   where
-    go : (t : Taken) → literal words end_of_word (get_uc_words 1 s) ≡ t → (u : Taken) → walk words end_of_word s ≡ u
+    go : (t : Option ℕ) → literal words end_of_word (get_uc_words 1 s) ≡ t → (u : Option ℕ) → walk words end_of_word s ≡ u
         → finalized s (get_uc_words 1 s) (literal words end_of_word (get_uc_words 1 s)) ≡ walk words end_of_word s
         → t ≡ u
-    go (Bytes k) e (Bytes m) f g =
-        ap Bytes ((token_is words (get_uc_words 1 s) k e).size ∙ sym (single_walk words s m (is_phrase_lem 0 words h).shape (walk_done words s m f)))
-    go (Bytes k) e Fails f g = not_fails (finalize s (take k (get_uc_words 1 s))) (sym f ∙ (sym g ∙ ap (finalized s (get_uc_words 1 s)) e))
-    go Fails e (Bytes m) f g = not_fails m (ap (finalized s (get_uc_words 1 s)) (sym e) ∙ (g ∙ f))
-    go Fails e Fails f g = refl
+    go (Some k) e (Some m) f g =
+        ap Some ((token_is words (get_uc_words 1 s) k e).size ∙ sym (single_walk words s m (is_phrase_lem 0 words h).shape (walk_done words s m f)))
+    go (Some k) e None f g = not_fails (finalize s (take k (get_uc_words 1 s))) (sym f ∙ (sym g ∙ ap (finalized s (get_uc_words 1 s)) e))
+    go None e (Some m) f g = not_fails m (ap (finalized s (get_uc_words 1 s)) (sym e) ∙ (g ∙ f))
+    go None e None f g = refl

@@ -1,8 +1,6 @@
 -- Reserved phrases, compared with the text word by word: `terminated(PHRASE, end_of_word)` on `get_uc_words`, and `finalize`,
 -- as a walk over the words in the text.
-use Rattle.std.specs.Prelude.{ℕ, cond, List, [], ◌∷◌, ◌++◌, eqb, drop}
-use Rattle.recognisers.specs.declared.Taken.{Taken}
-use Rattle.recognisers.specs.declared.Taken.TheVariants.{Bytes, Fails}
+use Rattle.std.specs.Prelude.{ℕ, cond, List, [], ◌∷◌, ◌++◌, eqb, drop, Option, Some, None}
 use Rattle.recognisers.specs.Text.{byte, bytes}
 use Rattle.recognisers.specs.Taking.{Taker, more, or, done, one, capital, blanks, end_of_word}
 
@@ -12,9 +10,9 @@ walk [] then s = then s
 walk (p ∷ words) then s = cond (eqb p (byte " ")) (blanks (walk words then) s) (one (λ b. eqb (capital b) p) (walk words then) s)
 
 -- `opt`: the words where they stand there, and no way back
-abbrev pub after : Taken → Taker → Taker
-after (Bytes n) then s = more n (then (drop n s))
-after Fails then s = then s
+abbrev pub after : Option ℕ → Taker → Taker
+after (Some n) then s = more n (then (drop n s))
+after None then s = then s
 
 unfoldable pub optional : List ℕ → Taker → Taker
 optional words then s = after (walk words done s) then s
@@ -30,7 +28,7 @@ phrase_end (phrase_if_exists words) s = walk words (optional (bytes " IF EXISTS"
 
 -- the first phrase of a list that stands at the start of the text
 unfoldable pub first_phrase : List Phrase → Taker
-first_phrase [] s = Fails
+first_phrase [] s = None
 first_phrase (p ∷ phrases) s = or (phrase_end p s) (first_phrase phrases s)
 
 -- each of these words behind others

@@ -1,12 +1,8 @@
 -- `get_reserved_word_token` and the six recognisers that it tries in turn.
-use Rattle.std.specs.Prelude.{ℕ, Bool, true, false, cond, not, ◌&&◌, ◌||◌, List, length, take, get_or}
-use Rattle.recognisers.specs.declared.Taken.{Taken}
-use Rattle.recognisers.specs.declared.Taken.TheVariants.{Bytes, Fails}
-use Rattle.recognisers.specs.declared.Key.TheVariants.{None}
+use Rattle.std.specs.Prelude.{ℕ, Bool, true, false, cond, not, ◌&&◌, ◌||◌, List, length, take, get_or, Option, Some, None}
+use Rattle.recognisers.specs.declared.Piece.{Piece}
 use Rattle.recognisers.specs.declared.TokenKind.{TokenKind}
 use Rattle.recognisers.specs.declared.TokenKind.TheVariants.{Reserved, ReservedTopLevel, ReservedTopLevelNoIndent, ReservedNewline, ReservedNewlineAfter, Join}
-use Rattle.recognisers.specs.declared.Recognised.{Recognised}
-use Rattle.recognisers.specs.declared.Recognised.TheVariants.{Token, Nothing}
 use Rattle.recognisers.specs.Text.{byte, bytes}
 use Rattle.recognisers.specs.Same.{same}
 use Rattle.recognisers.specs.Taking.{typed, is_spelled, capital, starts_with}
@@ -54,33 +50,33 @@ top_level_kind last value =
 unfoldable pub alias_length : List ℕ → ℕ
 alias_length value = cond (is_spelled typed (bytes "CREATE") value || is_spelled typed (bytes "SELECT") value) 6 (length value)
 
-abbrev pub top_level_token : TopLevel → List ℕ → Taken → Recognised
-top_level_token last s (Bytes n) =
-    Token (record { kind = top_level_kind last (take n s); len = n; alias = alias_length (take n s); key = None; escaped = 0 })
-top_level_token last s Fails = Nothing
+abbrev pub top_level_token : TopLevel → List ℕ → Option ℕ → Option Piece
+top_level_token last s (Some n) =
+    Some (record { kind = top_level_kind last (take n s); len = n; alias = alias_length (take n s); key = None; escaped = 0 })
+top_level_token last s None = None
 
-unfoldable pub get_top_level_reserved_token : TopLevel → List ℕ → Recognised
+unfoldable pub get_top_level_reserved_token : TopLevel → List ℕ → Option Piece
 get_top_level_reserved_token last s = top_level_token last s (first_phrase top_level_phrases s)
 
-unfoldable pub get_newline_after_reserved_token : List ℕ → Recognised
+unfoldable pub get_newline_after_reserved_token : List ℕ → Option Piece
 get_newline_after_reserved_token s = token_of ReservedNewlineAfter (first_phrase newline_after_phrases s)
 
 -- AND belongs to a BETWEEN that was the last reserved word
-abbrev pub newline_token : Bool → List ℕ → Taken → Recognised
-newline_token after_between s (Bytes n) =
-    Token (piece (cond (same (take n s) (bytes "AND") && after_between) Reserved ReservedNewline) n None)
-newline_token after_between s Fails = Nothing
+abbrev pub newline_token : Bool → List ℕ → Option ℕ → Option Piece
+newline_token after_between s (Some n) =
+    Some (piece (cond (same (take n s) (bytes "AND") && after_between) Reserved ReservedNewline) n None)
+newline_token after_between s None = None
 
-unfoldable pub get_newline_reserved_token : Bool → List ℕ → Recognised
+unfoldable pub get_newline_reserved_token : Bool → List ℕ → Option Piece
 get_newline_reserved_token after_between s = newline_token after_between s (first_phrase newline_phrases s)
 
-unfoldable pub get_join_token : List ℕ → Recognised
+unfoldable pub get_join_token : List ℕ → Option Piece
 get_join_token s = token_of Join (first_phrase join_phrases s)
 
-unfoldable pub get_top_level_reserved_token_no_indent : List ℕ → Recognised
+unfoldable pub get_top_level_reserved_token_no_indent : List ℕ → Option Piece
 get_top_level_reserved_token_no_indent s = token_of ReservedTopLevelNoIndent (first_phrase no_indent_phrases s)
 
-unfoldable pub get_plain_reserved_token : List ℕ → Recognised
+unfoldable pub get_plain_reserved_token : List ℕ → Option Piece
 get_plain_reserved_token s = alt (token_of Reserved (first_phrase plain_two_phrases s)) (token_of Reserved (first_phrase plain_one_phrases s))
 
 -- a letter or `$`
@@ -88,9 +84,9 @@ unfoldable pub may_be_reserved : List ℕ → Bool
 may_be_reserved s = within (byte "A") (byte "Z") (capital (get_or s 0 0)) || starts_with (byte "$") s
 
 -- none is tried after a `.`
-unfoldable pub get_reserved_word_token : Bool → Bool → TopLevel → List ℕ → Recognised
+unfoldable pub get_reserved_word_token : Bool → Bool → TopLevel → List ℕ → Option Piece
 get_reserved_word_token after_dot after_between last s =
-    cond (after_dot || not (may_be_reserved s)) Nothing
+    cond (after_dot || not (may_be_reserved s)) None
     (alt (get_top_level_reserved_token last s)
     (alt (get_newline_after_reserved_token s)
     (alt (get_newline_reserved_token after_between s)

@@ -1,8 +1,6 @@
 -- The alternatives of `get_top_level_reserved_token` nested as the Rust nests them, on the string that `get_uc_words` made.
 -- There is no way back into `alt` and `opt`. Written out phrase by phrase they are `top_level_phrases`: proofs/UcArms.antt.
-use Rattle.std.specs.Prelude.{ℕ, List, [], ◌∷◌, drop}
-use Rattle.recognisers.specs.declared.Taken.{Taken}
-use Rattle.recognisers.specs.declared.Taken.TheVariants.{Bytes, Fails}
+use Rattle.std.specs.Prelude.{ℕ, List, [], ◌∷◌, drop, Option, Some, None}
 use Rattle.recognisers.specs.Text.{bytes}
 use Rattle.recognisers.specs.Taking.{Taker, more, or, done, literal, end_of_word}
 use Rattle.reserved.specs.TopLevel.{creatable, alterable_or_droppable}
@@ -22,20 +20,20 @@ abbrev pub word : List ℕ → Choice
 word w = words (w ∷ [])
 
 -- what was taken, and a taker behind it
-abbrev pub behind : Taken → Taker → Taker
-behind (Bytes n) then uc = more n (then (drop n uc))
-behind Fails then uc = Fails
+abbrev pub behind : Option ℕ → Taker → Taker
+behind (Some n) then uc = more n (then (drop n uc))
+behind None then uc = None
 
 -- the first of the words that stands there
 unfoldable pub first_word : List (List ℕ) → Taker
-first_word [] uc = Fails
+first_word [] uc = None
 first_word (w ∷ ws) uc = or (literal w done uc) (first_word ws uc)
 
 unfoldable pub choose : Choice → Taker
 choose (words ws) uc = first_word ws uc
 choose (both a b) uc = behind (choose a uc) (choose b) uc
 choose (either a b) uc = or (choose a uc) (choose b uc)
-choose (maybe a) uc = or (choose a uc) (Bytes 0)
+choose (maybe a) uc = or (choose a uc) (Some 0)
 
 -- `terminated(.., end_of_word)`
 pub data Arm : Type 0 where
@@ -48,7 +46,7 @@ arm_end (ended c) uc = behind (choose c uc) end_of_word uc
 arm_end (ended_if_exists c) uc = behind (choose c uc) (opt (bytes " IF EXISTS") end_of_word) uc
 
 unfoldable pub first_arm : List Arm → Taker
-first_arm [] uc = Fails
+first_arm [] uc = None
 first_arm (arm ∷ arms) uc = or (arm_end arm uc) (first_arm arms uc)
 
 unfoldable pub create : Choice

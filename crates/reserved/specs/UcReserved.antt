@@ -1,9 +1,8 @@
 -- `get_reserved_word_token` with the phrases found in the Rust's own way: each recogniser asks `get_uc_words` for so many
 -- words. It is the same function: proofs/UcReserved.antt.
-use Rattle.std.specs.Prelude.{ℕ, Bool, cond, not, ◌||◌, List}
+use Rattle.std.specs.Prelude.{ℕ, Bool, cond, not, ◌||◌, List, Option, None}
+use Rattle.recognisers.specs.declared.Piece.{Piece}
 use Rattle.recognisers.specs.declared.TokenKind.TheVariants.{Reserved, ReservedTopLevelNoIndent, ReservedNewlineAfter, Join}
-use Rattle.recognisers.specs.declared.Recognised.{Recognised}
-use Rattle.recognisers.specs.declared.Recognised.TheVariants.{Nothing}
 use Rattle.recognisers.specs.Pieces.{token_of, alt}
 use Rattle.reserved.specs.declared.TopLevel.{TopLevel}
 use Rattle.reserved.specs.NewlineAfter.{newline_after_phrases}
@@ -15,9 +14,9 @@ use Rattle.reserved.specs.Reserved.{top_level_token, newline_token, may_be_reser
 use Rattle.reserved.specs.UcWords.{first_by_uc_words, first_by_uc_word}
 use Rattle.reserved.specs.UcChoices.{top_level_by_uc_words}
 
-unfoldable pub get_reserved_word_token_by_uc_words : Bool → Bool → TopLevel → List ℕ → Recognised
+unfoldable pub get_reserved_word_token_by_uc_words : Bool → Bool → TopLevel → List ℕ → Option Piece
 get_reserved_word_token_by_uc_words after_dot after_between last s =
-    cond (after_dot || not (may_be_reserved s)) Nothing
+    cond (after_dot || not (may_be_reserved s)) None
     (alt (top_level_token last s (top_level_by_uc_words s))
     (alt (token_of ReservedNewlineAfter (first_by_uc_words 3 newline_after_phrases s))
     (alt (newline_token after_between s (first_by_uc_words 3 newline_phrases s))

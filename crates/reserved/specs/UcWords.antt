@@ -1,8 +1,6 @@
 -- A reserved phrase in the Rust's own way: `terminated(PHRASE, end_of_word)` on the string that `get_uc_words` makes, then
 -- `finalize` on the input. It finds what `walk` finds: proofs/UcGroups.antt.
-use Rattle.std.specs.Prelude.{ℕ, zero, suc, ◌+◌, Bool, true, false, cond, not, List, [], ◌∷◌, ◌++◌, map, length, take, drop}
-use Rattle.recognisers.specs.declared.Taken.{Taken}
-use Rattle.recognisers.specs.declared.Taken.TheVariants.{Bytes, Fails}
+use Rattle.std.specs.Prelude.{ℕ, zero, suc, ◌+◌, Bool, true, false, cond, not, List, [], ◌∷◌, ◌++◌, map, length, take, drop, Option, Some, None}
 use Rattle.recognisers.specs.Text.{byte, bytes}
 use Rattle.recognisers.specs.Taking.{Taker, taken, more, or, done, typed, is_spelled, capital, literal, end_of_word}
 use Rattle.characters.specs.Classes.{is_whitespace}
@@ -45,8 +43,8 @@ get_uc_words n s = to_ascii_uppercase (join (split_whitespace n s))
 
 -- how many bytes stand before the first occurrence of a word
 unfoldable pub find : List ℕ → Taker
-find word [] = cond (is_spelled typed word []) (Bytes 0) Fails
-find word (b ∷ s) = cond (is_spelled typed word (b ∷ s)) (Bytes 0) (more 1 (find word s))
+find word [] = cond (is_spelled typed word []) (Some 0) None
+find word (b ∷ s) = cond (is_spelled typed word (b ∷ s)) (Some 0) (more 1 (find word s))
 
 abbrev pub last_or : List ℕ → List (List ℕ) → List ℕ
 last_or none [] = none
@@ -72,13 +70,13 @@ uc_phrase (phrase_if_exists words) uc = literal words (opt (bytes " IF EXISTS") 
 
 -- `alt`
 unfoldable pub first_uc_phrase : List Phrase → Taker
-first_uc_phrase [] uc = Fails
+first_uc_phrase [] uc = None
 first_uc_phrase (p ∷ phrases) uc = or (uc_phrase p uc) (first_uc_phrase phrases uc)
 
 -- from what was taken of that string to what is taken of the input
-abbrev pub finalized : List ℕ → List ℕ → Taken → Taken
-finalized s uc (Bytes n) = Bytes (finalize s (take n uc))
-finalized s uc Fails = Fails
+abbrev pub finalized : List ℕ → List ℕ → Option ℕ → Option ℕ
+finalized s uc (Some n) = Some (finalize s (take n uc))
+finalized s uc None = None
 
 unfoldable pub phrase_by_uc_words : ℕ → Phrase → Taker
 phrase_by_uc_words n p s = finalized s (get_uc_words n s) (uc_phrase p (get_uc_words n s))

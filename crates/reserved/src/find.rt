@@ -1,123 +1,123 @@
-// A phrase at the start of a rest, and the first phrase of a table.
-ghost use Rattle.std.specs.Prelude.{◌≡◌, [], ◌∷◌, false, ◌≤◌, ◌<◌, eqb, length, drop};
+// A phrase at the start of a rest, and the first of the phrases.
+ghost use Rattle.std.specs.Prelude.{◌≡◌, [], ◌∷◌, false, ◌≤◌, eqb, length, drop};
 ghost use Rattle.recognisers.specs.Taking.{done};
+ghost use Rattle.recognisers.specs.Inner.WordLength.{word_length};
 ghost use Rattle.reserved.specs.Phrases.{walk};
-ghost use Rattle.reserved.specs.Inner.Gaps.{Measured};
-ghost use Rattle.reserved.specs.Inner.Entries.{length_of, group_of, if_exists, ending, entry_end, table_find};
+ghost use Rattle.reserved.specs.Inner.Entries.{listed, entries, entries_of, entries_long, if_exists, ending, entry_end, find_entry};
 
-use crate::gaps::{gap_at, no_gaps, slot_behind};
-use recognisers::{Taken, capital_of, end_of_word, n_more};
+use crate::entries::{Entry, Group};
+use crate::gaps::Gaps;
+use crate::phrases::lengths_of;
+use recognisers::{capital_of, end_of_word, n_more};
 
 // A letter of a phrase at the start of the rest, in either case.
-fn letter_step(rest: &[u8], w: u8) -> Taken
+#[inline(always)]
+fn letter_step(rest: &[u8], w: u8) -> Option<usize>
     requires { eqb w 32 ≡ false }
     ensures { result ≡ walk (w ∷ []) done rest.now }
 {
-    if rest.len() == 0 {
-        return Taken::Fails;
+    if capital_of(*rest.first()?) == w {
+        Some(1)
+    } else {
+        None
     }
-    if capital_of(rest[0]) == w {
-        return Taken::Bytes(1);
-    }
-    Taken::Fails
 }
 
 // The byte of a phrase at a place of the rest: any whitespace for a space, else a letter.
-fn word_step(rest: &[u8], at: usize, w: u8, slot: usize, gaps: &mut [usize]) -> Taken
-    requires at_in_bounds { at ≤ length rest.now }
-    requires slot_bound { slot < 3 }
-    requires measured { Measured gaps.old rest.now }
-    ensures value { result ≡ walk (w ∷ []) done (drop at rest.now) }
-    ensures measured_2 { Measured gaps.new rest.now }
+#[inline(always)]
+fn word_step(gaps: &mut Gaps, at: usize, w: u8) -> Option<usize>
+    requires { at ≤ length gaps.old.rest.now }
+    ensures value { result ≡ walk (w ∷ []) done (drop at gaps.old.rest.now) }
+    ensures rest { gaps.new.rest ≡ gaps.old.rest }
 {
-    if w == b' ' {
-        let n = gap_at(rest, at, slot, gaps);
-        if n == 0 {
-            return Taken::Fails;
+    if w != b' ' {
+        return letter_step(&gaps.rest[at..], w);
+    }
+    match gaps.length_at(at) {
+        0 => None,
+        n => Some(n),
+    }
+}
+
+// How far words that begin at a place of the rest go on behind it.
+#[inline(always)]
+fn words_end(gaps: &mut Gaps, from: usize, words: &[u8]) -> Option<usize>
+    requires { from ≤ length gaps.old.rest.now }
+    ensures value { result ≡ walk words.now done (drop from gaps.old.rest.now) }
+    ensures rest { gaps.new.rest ≡ gaps.old.rest }
+{
+    let mut n = 0;
+    for w in words {
+        n += word_step(gaps, from + n, *w)?;
+    }
+    Some(n)
+}
+
+// `opt(" IF EXISTS")` and the end of the word, from a place of the rest on.
+fn if_exists(gaps: &mut Gaps, from: usize) -> Option<usize>
+    requires { from ≤ length gaps.old.rest.now }
+    ensures value { result ≡ if_exists (drop from gaps.old.rest.now) }
+    ensures rest { gaps.new.rest ≡ gaps.old.rest }
+{
+    let rest = gaps.rest;
+    match words_end(gaps, from, b" IF EXISTS") {
+        Some(n) => n_more(n, end_of_word(&rest[from + n..])),
+        None => end_of_word(&rest[from..]),
+    }
+}
+
+#[inline(always)]
+fn ending_of(gaps: &mut Gaps, from: usize, group: Group) -> Option<usize>
+    requires { from ≤ length gaps.old.rest.now }
+    ensures value { result ≡ ending group (drop from gaps.old.rest.now) }
+    ensures rest { gaps.new.rest ≡ gaps.old.rest }
+{
+    match group {
+        Group::Dropped => if_exists(gaps, from),
+        _ => end_of_word(&gaps.rest[from..]),
+    }
+}
+
+#[inline(always)]
+fn entry_end(gaps: &mut Gaps, group: Group, words: &[u8]) -> Option<usize>
+    ensures value { result ≡ entry_end group words.now gaps.old.rest.now }
+    ensures rest { gaps.new.rest ≡ gaps.old.rest }
+{
+    let n = words_end(gaps, 0, words)?;
+    n_more(n, ending_of(gaps, n, group))
+}
+
+// The first of the entries that stands at the start of the rest: its group and how many bytes it takes.
+#[inline(always)]
+fn find_in(entries: &[Entry], rest: &[u8]) -> Option<(Group, usize)>
+    ensures { result ≡ find_entry (listed entries.now) rest.now }
+{
+    let mut gaps = Gaps::none(rest);
+    for entry in entries {
+        let Entry(group, words) = *entry;
+        if let Some(len) = entry_end(&mut gaps, group, words.as_bytes()) {
+            return Some((group, len));
         }
-        return Taken::Bytes(n);
     }
-    letter_step(&rest[at..], w)
+    None
 }
 
-// Where the words of a phrase end in the rest.
-fn words_end(rest: &[u8], words: &[u8], gaps: &mut [usize]) -> Taken
-    requires { Measured gaps.old rest.now }
-    ensures value { result ≡ walk words.now done rest.now }
-    ensures measured { Measured gaps.new rest.now }
+// The entries that begin with a letter, in a word of this length.
+#[inline(always)]
+fn entries_of(letter: u8, n: usize) -> &'static [Entry]
+    ensures { listed result.now ≡ entries_long n (entries_of letter entries) }
 {
-    let mut at = 0;
-    let mut i = 0;
-    let mut slot = 0;
-    while i < words.len() {
-        let Taken::Bytes(n) = word_step(rest, at, words[i], slot, gaps) else {
-            return Taken::Fails;
-        };
-        at += n;
-        slot = slot_behind(slot, words[i]);
-        i += 1;
-    }
-    Taken::Bytes(at)
-}
-
-// `opt(" IF EXISTS")` and the end of the word.
-fn if_exists(rest: &[u8]) -> Taken
-    ensures { result ≡ if_exists rest.now }
-{
-    let mut gaps = no_gaps(rest);
-    match words_end(rest, b" IF EXISTS", &mut gaps) {
-        Taken::Bytes(n) => n_more(n, end_of_word(&rest[n..])),
-        Taken::Fails => end_of_word(rest),
+    match lengths_of(letter).get(n) {
+        Some(entries) => *entries,
+        None => &[],
     }
 }
 
-fn ending_of(rest: &[u8], optional: bool) -> Taken
-    ensures { result ≡ ending optional rest.now }
+// The first phrase that stands at the start of the rest.
+pub fn find_phrase(rest: &[u8], word: usize) -> Option<(Group, usize)>
+    requires { word ≡ word_length rest.now }
+    ensures { result ≡ find_entry entries rest.now }
 {
-    if optional {
-        return if_exists(rest);
-    }
-    end_of_word(rest)
-}
-
-fn entry_end(rest: &[u8], group: u8, words: &[u8], gaps: &mut [usize]) -> Taken
-    requires { Measured gaps.old rest.now }
-    ensures value { result ≡ entry_end group words.now rest.now }
-    ensures measured { Measured gaps.new rest.now }
-{
-    match words_end(rest, words, gaps) {
-        Taken::Bytes(n) => n_more(n, ending_of(&rest[n..], group == b'D')),
-        Taken::Fails => Taken::Fails,
-    }
-}
-
-fn wide(b: u8) -> usize
-    ensures { result ≡ b }
-{
-    b as usize
-}
-
-// The first entry of a table that stands at the start of the rest: how many bytes it takes, or 0. Its group's letter is written
-// to `found`. (An enum for both would go through memory, which takes longer than the search.)
-pub fn find_in(table: &[u8], rest: &[u8], found: &mut u8) -> usize
-    ensures value { result ≡ length_of (table_find 0 table.now rest.now) }
-    ensures found_after { found.new ≡ group_of found.old (table_find 0 table.now rest.now) }
-{
-    let mut gaps = no_gaps(rest);
-    let mut at = 0;
-    while at + 1 < table.len() {
-        let group = table[at];
-        let start = at + 2;
-        let n = wide(table[at + 1]);
-        if table.len() - start < n {
-            return 0;
-        }
-        let end = start + n;
-        if let Taken::Bytes(len) = entry_end(rest, group, &table[start..end], &mut gaps) {
-            *found = group;
-            return len;
-        }
-        at = end;
-    }
-    0
+    let letter = capital_of(*rest.first()?);
+    find_in(entries_of(letter, word), rest)
 }

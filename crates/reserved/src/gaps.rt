@@ -1,49 +1,56 @@
-// The gaps between the words of a phrase, each walked once however many phrases begin alike: the place in the rest of the first, the
-// second and the third that was looked at, and behind these how long they are.
-ghost use Rattle.std.specs.Prelude.{◌≡◌, [], ◌∷◌, ◌≤◌, ◌<◌, length, drop};
+// The gaps between the words of a phrase, each walked once however many phrases begin alike.
+ghost use Rattle.std.specs.Prelude.{◌≡◌, ◌≤◌, length, drop};
 ghost use Rattle.characters.specs.Runs.{run, in_class};
 ghost use Rattle.characters.specs.declared.Class.TheVariants.{Whitespace};
-ghost use Rattle.reserved.specs.Inner.Gaps.{Measured};
+ghost use Rattle.reserved.specs.Inner.Gaps.{AllMeasured};
 
 use characters::Class;
 
-const SLOTS: usize = 3;
-
-// No gap stands at the end.
-pub fn no_gaps(rest: &[u8]) -> [usize; 6]
-    ensures { Measured result rest.now }
-{
-    let end = rest.len();
-    [end, end, end, 0, 0, 0]
+// How much whitespace stands at a place of a rest.
+#[derive(Clone, Copy)]
+pub struct Gap {
+    pub at: usize,
+    pub len: usize,
 }
 
-// Where the gap behind this byte of a phrase is kept.
-pub fn slot_behind(slot: usize, w: u8) -> usize
-    requires { slot < 3 }
-    ensures { result < 3 }
-{
-    if w != b' ' {
-        return slot;
-    }
-    if slot + 1 == SLOTS {
-        return slot;
-    }
-    slot + 1
+// A rest and the last three gaps that were measured in it.
+#[derive(Drop)]
+pub struct Gaps<'a> {
+    pub rest: &'a [u8],
+    pub kept: [Gap; 3],
+    ghost measured: { AllMeasured rest.now kept },
 }
 
-// How much whitespace stands at a place.
-pub fn gap_at(rest: &[u8], at: usize, slot: usize, gaps: &mut [usize]) -> usize
-    requires at_in_bounds { at ≤ length rest.now }
-    requires slot_bound { slot < 3 }
-    requires measured { Measured gaps.old rest.now }
-    ensures value { result ≡ run (in_class Whitespace) 0 (drop at rest.now) }
-    ensures measured_2 { Measured gaps.new rest.now }
-{
-    if gaps[slot] == at {
-        return gaps[slot + SLOTS];
+impl<'a> Gaps<'a> {
+    // No gap stands at the end.
+    #[inline(always)]
+    pub fn none(rest: &'a [u8]) -> Self
+        ensures { result.rest.now ≡ rest.now }
+    {
+        let end = Gap {
+            at: rest.len(),
+            len: 0,
+        };
+        Gaps {
+            rest,
+            kept: [end, end, end],
+        }
     }
-    let n = characters::run_of(&rest[at..], Class::Whitespace);
-    gaps[slot] = at;
-    gaps[slot + SLOTS] = n;
-    n
+
+    // How much whitespace stands at a place.
+    #[inline(always)]
+    pub fn length_at(&mut self, at: usize) -> usize
+        requires at_in_bounds { at ≤ length self.old.rest.now }
+        ensures value { result ≡ run (in_class Whitespace) 0 (drop at self.old.rest.now) }
+        ensures rest { self.new.rest ≡ self.old.rest }
+    {
+        for gap in self.kept {
+            if gap.at == at {
+                return gap.len;
+            }
+        }
+        let len = characters::run_of(&self.rest[at..], Class::Whitespace);
+        self.kept = [Gap { at, len }, self.kept[0], self.kept[1]];
+        len
+    }
 }

@@ -1,319 +1,970 @@
-// The reserved phrases by their first letter and the length of their first word, in the order in which they are tried: for
-// each its group, the length of its words, and the words. Groups: T top level, D top level with IF EXISTS behind it or not, A
-// newline after, N newline, J join, I top level without indent, R reserved. Made by tools/phrases.py from the lists in specs/.
-
-pub const DOLLAR_0: [u8; 4] = *b"I\x02$$";
-
-pub const A_2: [u8; 4] = *b"R\x02AS";
-
-pub const A_3: [u8; 30] = *b"N\x03ANDN\x03ADDJ\x08ANY JOINR\x03ALLR\x03ASC";
-
-pub const A_4: [u8; 11] = *b"J\x09ASOF JOIN";
-
-pub const A_5: [u8; 152] =
-    *b"T\x05AFTERT\x0FALTER AGGREGATET\x0EALTER FUNCTIONT\x0EALTER LANGUAGET\x0FALTER PROCEDURET\x0AALTER RULET\x0DALTER TRIGGERT\x0AALTER VIEWT\x0BALTER TABLET\x0BALTER INDEXN\x05ALTERR\x05ALTER";
-
-pub const A_6: [u8; 8] = *b"R\x06ACTION";
-
-pub const A_7: [u8; 27] = *b"R\x07AGAINSTR\x07ANALYSER\x07ANALYZE";
-
-pub const A_9: [u8; 22] = *b"R\x09AGGREGATER\x09ALGORITHM";
-
-pub const A_10: [u8; 24] = *b"R\x0AACCESSIBLER\x0AAUTOCOMMIT";
-
-pub const A_14: [u8; 16] = *b"R\x0EAUTO_INCREMENT";
-
-pub const B_4: [u8; 6] = *b"R\x04BOTH";
-
-pub const B_5: [u8; 7] = *b"I\x05BEGIN";
-
-pub const B_6: [u8; 16] = *b"R\x06BACKUPR\x06BINLOG";
-
-pub const B_7: [u8; 9] = *b"R\x07BETWEEN";
-
-pub const C_4: [u8; 6] = *b"R\x04CASE";
-
-pub const C_5: [u8; 39] = *b"N\x0BCROSS APPLYJ\x0ACROSS JOINR\x05CHECKR\x05CROSS";
-
-pub const C_6: [u8; 558] =
-    *b"T\x1BCREATE OR REPLACE AGGREGATET\x1ACREATE OR REPLACE FUNCTIONT\x1ACREATE OR REPLACE LANGUAGET\x1BCREATE OR REPLACE PROCEDURET\x16CREATE OR REPLACE RULET\x19CREATE OR REPLACE TRIGGERT\x16CREATE OR REPLACE VIEWT\x10CREATE AGGREGATET\x0FCREATE FUNCTIONT\x0FCREATE LANGUAGET\x10CREATE PROCEDURET\x0BCREATE RULET\x0ECREATE TRIGGERT\x0BCREATE VIEWT\x13CREATE UNIQUE INDEXT\x0CCREATE INDEXT\x15CREATE UNLOGGED TABLET\x1DCREATE GLOBAL TEMPORARY TABLET\x18CREATE GLOBAL TEMP TABLET\x13CREATE GLOBAL TABLET\x1CCREATE LOCAL TEMPORARY TABLET\x17CREATE LOCAL TEMP TABLET\x12CREATE LOCAL TABLET\x0CCREATE TABLER\x06CHANGER\x06COLUMNR\x06COMMITR\x06CREATE";
-
-pub const C_7: [u8; 63] =
-    *b"R\x07CASCADER\x07CHANGEDR\x07CHARSETR\x07COLLATER\x07COLUMNSR\x07COMMENTR\x07CONVERT";
-
-pub const C_8: [u8; 20] = *b"R\x08CHECKSUMR\x08CONTAINS";
-
-pub const C_9: [u8; 37] = *b"R\x0DCHARACTER SETR\x09COLLATIONR\x09COMMITTED";
-
-pub const C_10: [u8; 36] = *b"R\x0ACOMPRESSEDR\x0ACONCURRENTR\x0ACONSTRAINT";
-
-pub const C_17: [u8; 19] = *b"R\x11CURRENT_TIMESTAMP";
-
-pub const D_2: [u8; 31] = *b"A\x0DDO UPDATE SETR\x0ADO NOTHINGR\x02DO";
-
-pub const D_3: [u8; 10] = *b"R\x03DAYR\x03DIV";
-
-pub const D_4: [u8; 140] =
-    *b"D\x0EDROP AGGREGATED\x0DDROP FUNCTIOND\x0DDROP LANGUAGED\x0EDROP PROCEDURED\x09DROP RULED\x0CDROP TRIGGERD\x09DROP VIEWD\x0ADROP TABLED\x0ADROP INDEXN\x04DROPR\x04DESCR\x04DROP";
-
-pub const D_6: [u8; 21] = *b"T\x0BDELETE FROMR\x06DELETE";
-
-pub const D_7: [u8; 54] =
-    *b"N\x07DISABLEI\x07DECLARER\x07DEFAULTR\x07DEFINERR\x07DELAYEDR\x07DYNAMIC";
-
-pub const D_8: [u8; 65] =
-    *b"R\x0DDISTINCT FROMR\x08DATABASER\x08DAY_HOURR\x08DESCRIBER\x08DISTINCTR\x08DUMPFILE";
-
-pub const D_9: [u8; 22] = *b"R\x09DATABASESR\x09DUPLICATE";
-
-pub const D_10: [u8; 24] = *b"R\x0ADAY_MINUTER\x0ADAY_SECOND";
-
-pub const D_11: [u8; 13] = *b"R\x0BDISTINCTROW";
-
-pub const D_13: [u8; 15] = *b"R\x0DDETERMINISTIC";
-
-pub const E_3: [u8; 5] = *b"R\x03END";
-
-pub const E_4: [u8; 18] = *b"N\x04ELSER\x04ELSER\x04EXEC";
-
-pub const E_6: [u8; 48] = *b"T\x06EXCEPTN\x06ENABLER\x06ENGINER\x06ESCAPER\x06EVENTSR\x06EXISTS";
-
-pub const E_7: [u8; 36] = *b"R\x07ENGINESR\x07ESCAPEDR\x07EXECUTER\x07EXPLAIN";
-
-pub const E_8: [u8; 20] = *b"R\x08ENCLOSEDR\x08EXTENDED";
-
-pub const E_11: [u8; 13] = *b"R\x0BENGINE_TYPE";
-
-pub const F_3: [u8; 62] =
-    *b"T\x0AFOR UPDATET\x11FOR NO KEY UPDATET\x09FOR SHARET\x0DFOR KEY SHARER\x03FOR";
-
-pub const F_4: [u8; 52] =
-    *b"T\x04FROMJ\x09FULL JOINJ\x0FFULL OUTER JOINR\x04FASTR\x04FILER\x04FULL";
-
-pub const F_5: [u8; 48] = *b"T\x0BFETCH FIRSTR\x05FETCHR\x05FIRSTR\x05FIXEDR\x05FLUSHR\x05FORCE";
-
-pub const F_6: [u8; 8] = *b"R\x06FIELDS";
-
-pub const F_7: [u8; 9] = *b"R\x07FOREIGN";
-
-pub const F_8: [u8; 20] = *b"R\x08FULLTEXTR\x08FUNCTION";
-
-pub const G_2: [u8; 4] = *b"T\x02GO";
-
-pub const G_5: [u8; 17] = *b"T\x08GROUP BYR\x05GRANT";
-
-pub const G_6: [u8; 90] =
-    *b"J\x11GLOBAL INNER JOINJ\x10GLOBAL LEFT JOINJ\x11GLOBAL RIGHT JOINJ\x10GLOBAL FULL JOINR\x06GLOBALR\x06GRANTS";
-
-pub const G_12: [u8; 14] = *b"R\x0CGROUP_CONCAT";
-
-pub const H_4: [u8; 12] = *b"R\x04HEAPR\x04HOUR";
-
-pub const H_5: [u8; 7] = *b"R\x05HOSTS";
-
-pub const H_6: [u8; 8] = *b"T\x06HAVING";
-
-pub const H_11: [u8; 26] = *b"R\x0BHOUR_MINUTER\x0BHOUR_SECOND";
-
-pub const H_13: [u8; 15] = *b"R\x0DHIGH_PRIORITY";
-
-pub const I_2: [u8; 12] = *b"R\x02IFR\x02INR\x02IS";
-
-pub const I_4: [u8; 6] = *b"R\x04INTO";
-
-pub const I_5: [u8; 35] = *b"J\x0AINNER JOINJ\x0EINNER ANY JOINR\x05INDEX";
-
-pub const I_6: [u8; 53] =
-    *b"T\x0BINSERT INTOT\x06INSERTR\x06IFNULLR\x06IGNORER\x06INFILER\x06INSERT";
-
-pub const I_7: [u8; 18] = *b"R\x07INDEXESR\x07INVOKER";
-
-pub const I_8: [u8; 10] = *b"R\x08INTERVAL";
-
-pub const I_9: [u8; 48] = *b"I\x0DINTERSECT ALLI\x09INTERSECTR\x09INSERT_IDR\x09ISOLATION";
-
-pub const I_10: [u8; 12] = *b"R\x0AIDENTIFIED";
-
-pub const I_13: [u8; 15] = *b"R\x0DINSERT_METHOD";
-
-pub const J_4: [u8; 6] = *b"J\x04JOIN";
-
-pub const K_3: [u8; 5] = *b"R\x03KEY";
-
-pub const K_4: [u8; 12] = *b"R\x04KEYSR\x04KILL";
-
-pub const L_4: [u8; 115] =
-    *b"J\x09LEFT JOINJ\x0FLEFT OUTER JOINJ\x0DLEFT ANY JOINJ\x0ELEFT SEMI JOINJ\x0ELEFT ANTI JOINJ\x0ELEFT ASOF JOINR\x04LIKER\x04LOADR\x04LOCKR\x04LOGS";
-
-pub const L_5: [u8; 35] = *b"T\x05LIMITR\x05LEVELR\x05LINESR\x05LOCALR\x05LOCKS";
-
-pub const L_6: [u8; 8] = *b"R\x06LINEAR";
-
-pub const L_7: [u8; 9] = *b"R\x07LEADING";
-
-pub const L_12: [u8; 14] = *b"R\x0CLOW_PRIORITY";
-
-pub const L_14: [u8; 16] = *b"R\x0ELAST_INSERT_ID";
-
-pub const M_4: [u8; 6] = *b"R\x04MODE";
-
-pub const M_5: [u8; 47] = *b"T\x0AMERGE INTOI\x05MINUSR\x05MARIAR\x05MATCHR\x05MERGER\x05MONTH";
-
-pub const M_6: [u8; 48] = *b"T\x06MODIFYR\x06MASTERR\x06MEDIUMR\x06MINUTER\x06MODIFYR\x06MYISAM";
-
-pub const M_8: [u8; 20] = *b"R\x08MAX_ROWSR\x08MIN_ROWS";
-
-pub const M_10: [u8; 12] = *b"R\x0AMRG_MYISAM";
-
-pub const M_11: [u8; 13] = *b"R\x0BMASTER_HOST";
-
-pub const M_13: [u8; 15] = *b"R\x0DMINUTE_SECOND";
-
-pub const M_15: [u8; 17] = *b"R\x0FMASTER_LOG_FILE";
-
-pub const M_20: [u8; 88] =
-    *b"R\x14MASTER_CONNECT_RETRYR\x14MAX_QUERIES_PER_HOURR\x14MAX_UPDATES_PER_HOURR\x14MAX_USER_CONNECTIONS";
-
-pub const M_24: [u8; 26] = *b"R\x18MAX_CONNECTIONS_PER_HOUR";
-
-pub const N_3: [u8; 12] = *b"R\x03NOTR\x05NOW()";
-
-pub const N_4: [u8; 6] = *b"R\x04NULL";
-
-pub const N_5: [u8; 7] = *b"R\x05NAMES";
-
-pub const N_7: [u8; 9] = *b"R\x07NATURAL";
-
-pub const O_2: [u8; 71] =
-    *b"T\x0BON CONFLICTN\x02ORR\x0BON CONFLICTR\x0DON CONSTRAINTR\x09ON DELETER\x09ON UPDATER\x02ON";
-
-pub const O_4: [u8; 12] = *b"R\x04ONLYR\x04OPEN";
-
-pub const O_5: [u8; 23] = *b"T\x08ORDER BYN\x0BOUTER APPLY";
-
-pub const O_6: [u8; 16] = *b"R\x06OFFSETR\x06OPTION";
-
-pub const O_7: [u8; 9] = *b"R\x07OUTFILE";
-
-pub const O_8: [u8; 10] = *b"R\x08OPTIMIZE";
-
-pub const O_10: [u8; 12] = *b"R\x0AOPTIONALLY";
-
-pub const P_4: [u8; 6] = *b"R\x04PAGE";
-
-pub const P_5: [u8; 19] = *b"J\x0APASTE JOINR\x05PURGE";
-
-pub const P_7: [u8; 27] = *b"R\x07PARTIALR\x07PRIMARYR\x07PROCESS";
-
-pub const P_8: [u8; 10] = *b"R\x08PASSWORD";
-
-pub const P_9: [u8; 47] = *b"T\x0CPARTITION BYR\x09PACK_KEYSR\x09PARTITIONR\x09PROCEDURE";
-
-pub const P_10: [u8; 24] = *b"R\x0APARTITIONSR\x0APRIVILEGES";
-
-pub const P_11: [u8; 29] = *b"R\x0EPARTITIONED BYR\x0BPROCESSLIST";
-
-pub const Q_5: [u8; 7] = *b"R\x05QUICK";
-
-pub const R_3: [u8; 5] = *b"R\x03ROW";
-
-pub const R_4: [u8; 12] = *b"R\x04READR\x04ROWS";
-
-pub const R_5: [u8; 108] =
-    *b"J\x0ARIGHT JOINJ\x10RIGHT OUTER JOINJ\x0ERIGHT ANY JOINJ\x0FRIGHT SEMI JOINJ\x0FRIGHT ANTI JOINR\x05RAID0R\x05RANGER\x05RESETR\x05RLIKE";
-
-pub const R_6: [u8; 48] = *b"R\x06REGEXPR\x06RELOADR\x06RENAMER\x06REPAIRR\x06RETURNR\x06REVOKE";
-
-pub const R_7: [u8; 27] = *b"R\x07REPLACER\x07RESTORER\x07RETURNS";
-
-pub const R_8: [u8; 20] = *b"R\x08RESTRICTR\x08ROLLBACK";
-
-pub const R_9: [u8; 33] = *b"T\x09RETURNINGR\x09RAID_TYPER\x09READ_ONLY";
-
-pub const R_10: [u8; 48] = *b"R\x0AREAD_WRITER\x0AREFERENCESR\x0AREPEATABLER\x0AROW_FORMAT";
-
-pub const R_11: [u8; 26] = *b"R\x0BRAID_CHUNKSR\x0BREPLICATION";
-
-pub const R_14: [u8; 16] = *b"R\x0ERAID_CHUNKSIZE";
-
-pub const S_3: [u8; 42] = *b"T\x12SET CURRENT SCHEMAT\x0ASET SCHEMAT\x03SETR\x03SQL";
-
-pub const S_4: [u8; 23] = *b"J\x09SEMI JOINR\x04SHOWR\x04STOP";
-
-pub const S_5: [u8; 28] = *b"R\x05SHARER\x05SLAVER\x05STARTR\x05SUPER";
-
-pub const S_6: [u8; 77] =
-    *b"T\x0FSELECT DISTINCTT\x0ASELECT ALLT\x06SELECTR\x06SECONDR\x06SONAMER\x06SOUNDSR\x06STATUSR\x06STRING";
-
-pub const S_7: [u8; 27] = *b"R\x07SESSIONR\x07STORAGER\x07STRIPED";
-
-pub const S_8: [u8; 30] = *b"R\x08SECURITYR\x08SHUTDOWNR\x08STARTING";
-
-pub const S_9: [u8; 22] = *b"R\x09SEPARATORR\x09SQL_CACHE";
-
-pub const S_11: [u8; 26] = *b"R\x0BSQL_LOG_BINR\x0BSQL_LOG_OFF";
-
-pub const S_12: [u8; 42] = *b"R\x0CSERIALIZABLER\x0CSQL_NO_CACHER\x0CSQL_WARNINGS";
-
-pub const S_13: [u8; 15] = *b"R\x0DSTRAIGHT_JOIN";
-
-pub const S_14: [u8; 48] = *b"R\x0ESQL_BIG_RESULTR\x0ESQL_BIG_TABLESR\x0ESQL_LOG_UPDATE";
-
-pub const S_15: [u8; 17] = *b"R\x0FSQL_BIG_SELECTS";
-
-pub const S_16: [u8; 72] =
-    *b"R\x10SQL_AUTO_IS_NULLR\x10SQL_SAFE_UPDATESR\x10SQL_SELECT_LIMITR\x10SQL_SMALL_RESULT";
-
-pub const S_17: [u8; 38] = *b"R\x11SQL_BUFFER_RESULTR\x11SQL_MAX_JOIN_SIZE";
-
-pub const S_19: [u8; 21] = *b"R\x13SQL_CALC_FOUND_ROWS";
-
-pub const S_21: [u8; 23] = *b"R\x15SQL_QUOTE_SHOW_CREATE";
-
-pub const S_22: [u8; 24] = *b"R\x16SQL_SLAVE_SKIP_COUNTER";
-
-pub const S_24: [u8; 26] = *b"R\x18SQL_LOW_PRIORITY_UPDATES";
-
-pub const T_2: [u8; 4] = *b"R\x02TO";
-
-pub const T_4: [u8; 18] = *b"R\x04THENR\x04TRUER\x04TYPE";
-
-pub const T_5: [u8; 14] = *b"R\x05TABLER\x05TYPES";
-
-pub const T_6: [u8; 8] = *b"R\x06TABLES";
-
-pub const T_8: [u8; 20] = *b"R\x08TRAILINGR\x08TRUNCATE";
-
-pub const T_9: [u8; 11] = *b"R\x09TEMPORARY";
-
-pub const T_10: [u8; 12] = *b"R\x0ATERMINATED";
-
-pub const T_13: [u8; 30] = *b"R\x0DTRANSACTIONALR\x0DTBLPROPERTIES";
-
-pub const U_3: [u8; 5] = *b"R\x03USE";
-
-pub const U_5: [u8; 32] = *b"T\x05USINGI\x09UNION ALLI\x05UNIONR\x05USAGE";
-
-pub const U_6: [u8; 24] = *b"T\x06UPDATER\x06UNIQUER\x06UNLOCK";
-
-pub const U_8: [u8; 10] = *b"R\x08UNSIGNED";
-
-pub const U_11: [u8; 13] = *b"R\x0BUNCOMMITTED";
-
-pub const V_4: [u8; 6] = *b"R\x04VIEW";
-
-pub const V_6: [u8; 8] = *b"T\x06VALUES";
-
-pub const V_8: [u8; 10] = *b"N\x08VALIDATE";
-
-pub const V_9: [u8; 11] = *b"R\x09VARIABLES";
-
-pub const W_4: [u8; 24] = *b"N\x04WHENI\x04WITHR\x04WHENR\x04WORK";
-
-pub const W_5: [u8; 14] = *b"T\x05WHERER\x05WRITE";
-
-pub const W_6: [u8; 8] = *b"T\x06WINDOW";
-
-pub const X_3: [u8; 5] = *b"N\x03XOR";
-
-pub const Y_10: [u8; 12] = *b"R\x0AYEAR_MONTH";
+// The reserved phrases by their first letter and the length of their first word, in the order in which they are tried. Made by
+// tools/phrases.py from the lists in specs/.
+ghost use Rattle.std.specs.Prelude.{◌≡◌, ℕ};
+ghost use Rattle.reserved.specs.Inner.Entries.{entries, entries_of, entries_long, listed_at};
+
+use crate::entries::{Entry, Group};
+
+const DOLLAR_0: &[Entry] = &[Entry(Group::NoIndent, "$$")];
+
+const DOLLAR: &[&[Entry]] = &[DOLLAR_0];
+
+const A_2: &[Entry] = &[Entry(Group::Plain, "AS")];
+
+const A_3: &[Entry] = &[
+    Entry(Group::Newline, "AND"),
+    Entry(Group::Newline, "ADD"),
+    Entry(Group::Join, "ANY JOIN"),
+    Entry(Group::Plain, "ALL"),
+    Entry(Group::Plain, "ASC"),
+];
+
+const A_4: &[Entry] = &[Entry(Group::Join, "ASOF JOIN")];
+
+const A_5: &[Entry] = &[
+    Entry(Group::TopLevel, "AFTER"),
+    Entry(Group::TopLevel, "ALTER AGGREGATE"),
+    Entry(Group::TopLevel, "ALTER FUNCTION"),
+    Entry(Group::TopLevel, "ALTER LANGUAGE"),
+    Entry(Group::TopLevel, "ALTER PROCEDURE"),
+    Entry(Group::TopLevel, "ALTER RULE"),
+    Entry(Group::TopLevel, "ALTER TRIGGER"),
+    Entry(Group::TopLevel, "ALTER VIEW"),
+    Entry(Group::TopLevel, "ALTER TABLE"),
+    Entry(Group::TopLevel, "ALTER INDEX"),
+    Entry(Group::Newline, "ALTER"),
+    Entry(Group::Plain, "ALTER"),
+];
+
+const A_6: &[Entry] = &[Entry(Group::Plain, "ACTION")];
+
+const A_7: &[Entry] = &[
+    Entry(Group::Plain, "AGAINST"),
+    Entry(Group::Plain, "ANALYSE"),
+    Entry(Group::Plain, "ANALYZE"),
+];
+
+const A_9: &[Entry] = &[
+    Entry(Group::Plain, "AGGREGATE"),
+    Entry(Group::Plain, "ALGORITHM"),
+];
+
+const A_10: &[Entry] = &[
+    Entry(Group::Plain, "ACCESSIBLE"),
+    Entry(Group::Plain, "AUTOCOMMIT"),
+];
+
+const A_14: &[Entry] = &[Entry(Group::Plain, "AUTO_INCREMENT")];
+
+const A: &[&[Entry]] = &[
+    &[],
+    &[],
+    A_2,
+    A_3,
+    A_4,
+    A_5,
+    A_6,
+    A_7,
+    &[],
+    A_9,
+    A_10,
+    &[],
+    &[],
+    &[],
+    A_14,
+];
+
+const B_4: &[Entry] = &[Entry(Group::Plain, "BOTH")];
+
+const B_5: &[Entry] = &[Entry(Group::NoIndent, "BEGIN")];
+
+const B_6: &[Entry] = &[Entry(Group::Plain, "BACKUP"), Entry(Group::Plain, "BINLOG")];
+
+const B_7: &[Entry] = &[Entry(Group::Plain, "BETWEEN")];
+
+const B: &[&[Entry]] = &[&[], &[], &[], &[], B_4, B_5, B_6, B_7];
+
+const C_4: &[Entry] = &[Entry(Group::Plain, "CASE")];
+
+const C_5: &[Entry] = &[
+    Entry(Group::Newline, "CROSS APPLY"),
+    Entry(Group::Join, "CROSS JOIN"),
+    Entry(Group::Plain, "CHECK"),
+    Entry(Group::Plain, "CROSS"),
+];
+
+const C_6: &[Entry] = &[
+    Entry(Group::TopLevel, "CREATE OR REPLACE AGGREGATE"),
+    Entry(Group::TopLevel, "CREATE OR REPLACE FUNCTION"),
+    Entry(Group::TopLevel, "CREATE OR REPLACE LANGUAGE"),
+    Entry(Group::TopLevel, "CREATE OR REPLACE PROCEDURE"),
+    Entry(Group::TopLevel, "CREATE OR REPLACE RULE"),
+    Entry(Group::TopLevel, "CREATE OR REPLACE TRIGGER"),
+    Entry(Group::TopLevel, "CREATE OR REPLACE VIEW"),
+    Entry(Group::TopLevel, "CREATE AGGREGATE"),
+    Entry(Group::TopLevel, "CREATE FUNCTION"),
+    Entry(Group::TopLevel, "CREATE LANGUAGE"),
+    Entry(Group::TopLevel, "CREATE PROCEDURE"),
+    Entry(Group::TopLevel, "CREATE RULE"),
+    Entry(Group::TopLevel, "CREATE TRIGGER"),
+    Entry(Group::TopLevel, "CREATE VIEW"),
+    Entry(Group::TopLevel, "CREATE UNIQUE INDEX"),
+    Entry(Group::TopLevel, "CREATE INDEX"),
+    Entry(Group::TopLevel, "CREATE UNLOGGED TABLE"),
+    Entry(Group::TopLevel, "CREATE GLOBAL TEMPORARY TABLE"),
+    Entry(Group::TopLevel, "CREATE GLOBAL TEMP TABLE"),
+    Entry(Group::TopLevel, "CREATE GLOBAL TABLE"),
+    Entry(Group::TopLevel, "CREATE LOCAL TEMPORARY TABLE"),
+    Entry(Group::TopLevel, "CREATE LOCAL TEMP TABLE"),
+    Entry(Group::TopLevel, "CREATE LOCAL TABLE"),
+    Entry(Group::TopLevel, "CREATE TABLE"),
+    Entry(Group::Plain, "CHANGE"),
+    Entry(Group::Plain, "COLUMN"),
+    Entry(Group::Plain, "COMMIT"),
+    Entry(Group::Plain, "CREATE"),
+];
+
+const C_7: &[Entry] = &[
+    Entry(Group::Plain, "CASCADE"),
+    Entry(Group::Plain, "CHANGED"),
+    Entry(Group::Plain, "CHARSET"),
+    Entry(Group::Plain, "COLLATE"),
+    Entry(Group::Plain, "COLUMNS"),
+    Entry(Group::Plain, "COMMENT"),
+    Entry(Group::Plain, "CONVERT"),
+];
+
+const C_8: &[Entry] = &[
+    Entry(Group::Plain, "CHECKSUM"),
+    Entry(Group::Plain, "CONTAINS"),
+];
+
+const C_9: &[Entry] = &[
+    Entry(Group::Plain, "CHARACTER SET"),
+    Entry(Group::Plain, "COLLATION"),
+    Entry(Group::Plain, "COMMITTED"),
+];
+
+const C_10: &[Entry] = &[
+    Entry(Group::Plain, "COMPRESSED"),
+    Entry(Group::Plain, "CONCURRENT"),
+    Entry(Group::Plain, "CONSTRAINT"),
+];
+
+const C_17: &[Entry] = &[Entry(Group::Plain, "CURRENT_TIMESTAMP")];
+
+const C: &[&[Entry]] = &[
+    &[],
+    &[],
+    &[],
+    &[],
+    C_4,
+    C_5,
+    C_6,
+    C_7,
+    C_8,
+    C_9,
+    C_10,
+    &[],
+    &[],
+    &[],
+    &[],
+    &[],
+    &[],
+    C_17,
+];
+
+const D_2: &[Entry] = &[
+    Entry(Group::NewlineAfter, "DO UPDATE SET"),
+    Entry(Group::Plain, "DO NOTHING"),
+    Entry(Group::Plain, "DO"),
+];
+
+const D_3: &[Entry] = &[Entry(Group::Plain, "DAY"), Entry(Group::Plain, "DIV")];
+
+const D_4: &[Entry] = &[
+    Entry(Group::Dropped, "DROP AGGREGATE"),
+    Entry(Group::Dropped, "DROP FUNCTION"),
+    Entry(Group::Dropped, "DROP LANGUAGE"),
+    Entry(Group::Dropped, "DROP PROCEDURE"),
+    Entry(Group::Dropped, "DROP RULE"),
+    Entry(Group::Dropped, "DROP TRIGGER"),
+    Entry(Group::Dropped, "DROP VIEW"),
+    Entry(Group::Dropped, "DROP TABLE"),
+    Entry(Group::Dropped, "DROP INDEX"),
+    Entry(Group::Newline, "DROP"),
+    Entry(Group::Plain, "DESC"),
+    Entry(Group::Plain, "DROP"),
+];
+
+const D_6: &[Entry] = &[
+    Entry(Group::TopLevel, "DELETE FROM"),
+    Entry(Group::Plain, "DELETE"),
+];
+
+const D_7: &[Entry] = &[
+    Entry(Group::Newline, "DISABLE"),
+    Entry(Group::NoIndent, "DECLARE"),
+    Entry(Group::Plain, "DEFAULT"),
+    Entry(Group::Plain, "DEFINER"),
+    Entry(Group::Plain, "DELAYED"),
+    Entry(Group::Plain, "DYNAMIC"),
+];
+
+const D_8: &[Entry] = &[
+    Entry(Group::Plain, "DISTINCT FROM"),
+    Entry(Group::Plain, "DATABASE"),
+    Entry(Group::Plain, "DAY_HOUR"),
+    Entry(Group::Plain, "DESCRIBE"),
+    Entry(Group::Plain, "DISTINCT"),
+    Entry(Group::Plain, "DUMPFILE"),
+];
+
+const D_9: &[Entry] = &[
+    Entry(Group::Plain, "DATABASES"),
+    Entry(Group::Plain, "DUPLICATE"),
+];
+
+const D_10: &[Entry] = &[
+    Entry(Group::Plain, "DAY_MINUTE"),
+    Entry(Group::Plain, "DAY_SECOND"),
+];
+
+const D_11: &[Entry] = &[Entry(Group::Plain, "DISTINCTROW")];
+
+const D_13: &[Entry] = &[Entry(Group::Plain, "DETERMINISTIC")];
+
+const D: &[&[Entry]] = &[
+    &[],
+    &[],
+    D_2,
+    D_3,
+    D_4,
+    &[],
+    D_6,
+    D_7,
+    D_8,
+    D_9,
+    D_10,
+    D_11,
+    &[],
+    D_13,
+];
+
+const E_3: &[Entry] = &[Entry(Group::Plain, "END")];
+
+const E_4: &[Entry] = &[
+    Entry(Group::Newline, "ELSE"),
+    Entry(Group::Plain, "ELSE"),
+    Entry(Group::Plain, "EXEC"),
+];
+
+const E_6: &[Entry] = &[
+    Entry(Group::TopLevel, "EXCEPT"),
+    Entry(Group::Newline, "ENABLE"),
+    Entry(Group::Plain, "ENGINE"),
+    Entry(Group::Plain, "ESCAPE"),
+    Entry(Group::Plain, "EVENTS"),
+    Entry(Group::Plain, "EXISTS"),
+];
+
+const E_7: &[Entry] = &[
+    Entry(Group::Plain, "ENGINES"),
+    Entry(Group::Plain, "ESCAPED"),
+    Entry(Group::Plain, "EXECUTE"),
+    Entry(Group::Plain, "EXPLAIN"),
+];
+
+const E_8: &[Entry] = &[
+    Entry(Group::Plain, "ENCLOSED"),
+    Entry(Group::Plain, "EXTENDED"),
+];
+
+const E_11: &[Entry] = &[Entry(Group::Plain, "ENGINE_TYPE")];
+
+const E: &[&[Entry]] = &[&[], &[], &[], E_3, E_4, &[], E_6, E_7, E_8, &[], &[], E_11];
+
+const F_3: &[Entry] = &[
+    Entry(Group::TopLevel, "FOR UPDATE"),
+    Entry(Group::TopLevel, "FOR NO KEY UPDATE"),
+    Entry(Group::TopLevel, "FOR SHARE"),
+    Entry(Group::TopLevel, "FOR KEY SHARE"),
+    Entry(Group::Plain, "FOR"),
+];
+
+const F_4: &[Entry] = &[
+    Entry(Group::TopLevel, "FROM"),
+    Entry(Group::Join, "FULL JOIN"),
+    Entry(Group::Join, "FULL OUTER JOIN"),
+    Entry(Group::Plain, "FAST"),
+    Entry(Group::Plain, "FILE"),
+    Entry(Group::Plain, "FULL"),
+];
+
+const F_5: &[Entry] = &[
+    Entry(Group::TopLevel, "FETCH FIRST"),
+    Entry(Group::Plain, "FETCH"),
+    Entry(Group::Plain, "FIRST"),
+    Entry(Group::Plain, "FIXED"),
+    Entry(Group::Plain, "FLUSH"),
+    Entry(Group::Plain, "FORCE"),
+];
+
+const F_6: &[Entry] = &[Entry(Group::Plain, "FIELDS")];
+
+const F_7: &[Entry] = &[Entry(Group::Plain, "FOREIGN")];
+
+const F_8: &[Entry] = &[
+    Entry(Group::Plain, "FULLTEXT"),
+    Entry(Group::Plain, "FUNCTION"),
+];
+
+const F: &[&[Entry]] = &[&[], &[], &[], F_3, F_4, F_5, F_6, F_7, F_8];
+
+const G_2: &[Entry] = &[Entry(Group::TopLevel, "GO")];
+
+const G_5: &[Entry] = &[
+    Entry(Group::TopLevel, "GROUP BY"),
+    Entry(Group::Plain, "GRANT"),
+];
+
+const G_6: &[Entry] = &[
+    Entry(Group::Join, "GLOBAL INNER JOIN"),
+    Entry(Group::Join, "GLOBAL LEFT JOIN"),
+    Entry(Group::Join, "GLOBAL RIGHT JOIN"),
+    Entry(Group::Join, "GLOBAL FULL JOIN"),
+    Entry(Group::Plain, "GLOBAL"),
+    Entry(Group::Plain, "GRANTS"),
+];
+
+const G_12: &[Entry] = &[Entry(Group::Plain, "GROUP_CONCAT")];
+
+const G: &[&[Entry]] = &[
+    &[],
+    &[],
+    G_2,
+    &[],
+    &[],
+    G_5,
+    G_6,
+    &[],
+    &[],
+    &[],
+    &[],
+    &[],
+    G_12,
+];
+
+const H_4: &[Entry] = &[Entry(Group::Plain, "HEAP"), Entry(Group::Plain, "HOUR")];
+
+const H_5: &[Entry] = &[Entry(Group::Plain, "HOSTS")];
+
+const H_6: &[Entry] = &[Entry(Group::TopLevel, "HAVING")];
+
+const H_11: &[Entry] = &[
+    Entry(Group::Plain, "HOUR_MINUTE"),
+    Entry(Group::Plain, "HOUR_SECOND"),
+];
+
+const H_13: &[Entry] = &[Entry(Group::Plain, "HIGH_PRIORITY")];
+
+const H: &[&[Entry]] = &[
+    &[],
+    &[],
+    &[],
+    &[],
+    H_4,
+    H_5,
+    H_6,
+    &[],
+    &[],
+    &[],
+    &[],
+    H_11,
+    &[],
+    H_13,
+];
+
+const I_2: &[Entry] = &[
+    Entry(Group::Plain, "IF"),
+    Entry(Group::Plain, "IN"),
+    Entry(Group::Plain, "IS"),
+];
+
+const I_4: &[Entry] = &[Entry(Group::Plain, "INTO")];
+
+const I_5: &[Entry] = &[
+    Entry(Group::Join, "INNER JOIN"),
+    Entry(Group::Join, "INNER ANY JOIN"),
+    Entry(Group::Plain, "INDEX"),
+];
+
+const I_6: &[Entry] = &[
+    Entry(Group::TopLevel, "INSERT INTO"),
+    Entry(Group::TopLevel, "INSERT"),
+    Entry(Group::Plain, "IFNULL"),
+    Entry(Group::Plain, "IGNORE"),
+    Entry(Group::Plain, "INFILE"),
+    Entry(Group::Plain, "INSERT"),
+];
+
+const I_7: &[Entry] = &[
+    Entry(Group::Plain, "INDEXES"),
+    Entry(Group::Plain, "INVOKER"),
+];
+
+const I_8: &[Entry] = &[Entry(Group::Plain, "INTERVAL")];
+
+const I_9: &[Entry] = &[
+    Entry(Group::NoIndent, "INTERSECT ALL"),
+    Entry(Group::NoIndent, "INTERSECT"),
+    Entry(Group::Plain, "INSERT_ID"),
+    Entry(Group::Plain, "ISOLATION"),
+];
+
+const I_10: &[Entry] = &[Entry(Group::Plain, "IDENTIFIED")];
+
+const I_13: &[Entry] = &[Entry(Group::Plain, "INSERT_METHOD")];
+
+const I: &[&[Entry]] = &[
+    &[],
+    &[],
+    I_2,
+    &[],
+    I_4,
+    I_5,
+    I_6,
+    I_7,
+    I_8,
+    I_9,
+    I_10,
+    &[],
+    &[],
+    I_13,
+];
+
+const J_4: &[Entry] = &[Entry(Group::Join, "JOIN")];
+
+const J: &[&[Entry]] = &[&[], &[], &[], &[], J_4];
+
+const K_3: &[Entry] = &[Entry(Group::Plain, "KEY")];
+
+const K_4: &[Entry] = &[Entry(Group::Plain, "KEYS"), Entry(Group::Plain, "KILL")];
+
+const K: &[&[Entry]] = &[&[], &[], &[], K_3, K_4];
+
+const L_4: &[Entry] = &[
+    Entry(Group::Join, "LEFT JOIN"),
+    Entry(Group::Join, "LEFT OUTER JOIN"),
+    Entry(Group::Join, "LEFT ANY JOIN"),
+    Entry(Group::Join, "LEFT SEMI JOIN"),
+    Entry(Group::Join, "LEFT ANTI JOIN"),
+    Entry(Group::Join, "LEFT ASOF JOIN"),
+    Entry(Group::Plain, "LIKE"),
+    Entry(Group::Plain, "LOAD"),
+    Entry(Group::Plain, "LOCK"),
+    Entry(Group::Plain, "LOGS"),
+];
+
+const L_5: &[Entry] = &[
+    Entry(Group::TopLevel, "LIMIT"),
+    Entry(Group::Plain, "LEVEL"),
+    Entry(Group::Plain, "LINES"),
+    Entry(Group::Plain, "LOCAL"),
+    Entry(Group::Plain, "LOCKS"),
+];
+
+const L_6: &[Entry] = &[Entry(Group::Plain, "LINEAR")];
+
+const L_7: &[Entry] = &[Entry(Group::Plain, "LEADING")];
+
+const L_12: &[Entry] = &[Entry(Group::Plain, "LOW_PRIORITY")];
+
+const L_14: &[Entry] = &[Entry(Group::Plain, "LAST_INSERT_ID")];
+
+const L: &[&[Entry]] = &[
+    &[],
+    &[],
+    &[],
+    &[],
+    L_4,
+    L_5,
+    L_6,
+    L_7,
+    &[],
+    &[],
+    &[],
+    &[],
+    L_12,
+    &[],
+    L_14,
+];
+
+const M_4: &[Entry] = &[Entry(Group::Plain, "MODE")];
+
+const M_5: &[Entry] = &[
+    Entry(Group::TopLevel, "MERGE INTO"),
+    Entry(Group::NoIndent, "MINUS"),
+    Entry(Group::Plain, "MARIA"),
+    Entry(Group::Plain, "MATCH"),
+    Entry(Group::Plain, "MERGE"),
+    Entry(Group::Plain, "MONTH"),
+];
+
+const M_6: &[Entry] = &[
+    Entry(Group::TopLevel, "MODIFY"),
+    Entry(Group::Plain, "MASTER"),
+    Entry(Group::Plain, "MEDIUM"),
+    Entry(Group::Plain, "MINUTE"),
+    Entry(Group::Plain, "MODIFY"),
+    Entry(Group::Plain, "MYISAM"),
+];
+
+const M_8: &[Entry] = &[
+    Entry(Group::Plain, "MAX_ROWS"),
+    Entry(Group::Plain, "MIN_ROWS"),
+];
+
+const M_10: &[Entry] = &[Entry(Group::Plain, "MRG_MYISAM")];
+
+const M_11: &[Entry] = &[Entry(Group::Plain, "MASTER_HOST")];
+
+const M_13: &[Entry] = &[Entry(Group::Plain, "MINUTE_SECOND")];
+
+const M_15: &[Entry] = &[Entry(Group::Plain, "MASTER_LOG_FILE")];
+
+const M_20: &[Entry] = &[
+    Entry(Group::Plain, "MASTER_CONNECT_RETRY"),
+    Entry(Group::Plain, "MAX_QUERIES_PER_HOUR"),
+    Entry(Group::Plain, "MAX_UPDATES_PER_HOUR"),
+    Entry(Group::Plain, "MAX_USER_CONNECTIONS"),
+];
+
+const M_24: &[Entry] = &[Entry(Group::Plain, "MAX_CONNECTIONS_PER_HOUR")];
+
+const M: &[&[Entry]] = &[
+    &[],
+    &[],
+    &[],
+    &[],
+    M_4,
+    M_5,
+    M_6,
+    &[],
+    M_8,
+    &[],
+    M_10,
+    M_11,
+    &[],
+    M_13,
+    &[],
+    M_15,
+    &[],
+    &[],
+    &[],
+    &[],
+    M_20,
+    &[],
+    &[],
+    &[],
+    M_24,
+];
+
+const N_3: &[Entry] = &[Entry(Group::Plain, "NOT"), Entry(Group::Plain, "NOW()")];
+
+const N_4: &[Entry] = &[Entry(Group::Plain, "NULL")];
+
+const N_5: &[Entry] = &[Entry(Group::Plain, "NAMES")];
+
+const N_7: &[Entry] = &[Entry(Group::Plain, "NATURAL")];
+
+const N: &[&[Entry]] = &[&[], &[], &[], N_3, N_4, N_5, &[], N_7];
+
+const O_2: &[Entry] = &[
+    Entry(Group::TopLevel, "ON CONFLICT"),
+    Entry(Group::Newline, "OR"),
+    Entry(Group::Plain, "ON CONFLICT"),
+    Entry(Group::Plain, "ON CONSTRAINT"),
+    Entry(Group::Plain, "ON DELETE"),
+    Entry(Group::Plain, "ON UPDATE"),
+    Entry(Group::Plain, "ON"),
+];
+
+const O_4: &[Entry] = &[Entry(Group::Plain, "ONLY"), Entry(Group::Plain, "OPEN")];
+
+const O_5: &[Entry] = &[
+    Entry(Group::TopLevel, "ORDER BY"),
+    Entry(Group::Newline, "OUTER APPLY"),
+];
+
+const O_6: &[Entry] = &[Entry(Group::Plain, "OFFSET"), Entry(Group::Plain, "OPTION")];
+
+const O_7: &[Entry] = &[Entry(Group::Plain, "OUTFILE")];
+
+const O_8: &[Entry] = &[Entry(Group::Plain, "OPTIMIZE")];
+
+const O_10: &[Entry] = &[Entry(Group::Plain, "OPTIONALLY")];
+
+const O: &[&[Entry]] = &[&[], &[], O_2, &[], O_4, O_5, O_6, O_7, O_8, &[], O_10];
+
+const P_4: &[Entry] = &[Entry(Group::Plain, "PAGE")];
+
+const P_5: &[Entry] = &[
+    Entry(Group::Join, "PASTE JOIN"),
+    Entry(Group::Plain, "PURGE"),
+];
+
+const P_7: &[Entry] = &[
+    Entry(Group::Plain, "PARTIAL"),
+    Entry(Group::Plain, "PRIMARY"),
+    Entry(Group::Plain, "PROCESS"),
+];
+
+const P_8: &[Entry] = &[Entry(Group::Plain, "PASSWORD")];
+
+const P_9: &[Entry] = &[
+    Entry(Group::TopLevel, "PARTITION BY"),
+    Entry(Group::Plain, "PACK_KEYS"),
+    Entry(Group::Plain, "PARTITION"),
+    Entry(Group::Plain, "PROCEDURE"),
+];
+
+const P_10: &[Entry] = &[
+    Entry(Group::Plain, "PARTITIONS"),
+    Entry(Group::Plain, "PRIVILEGES"),
+];
+
+const P_11: &[Entry] = &[
+    Entry(Group::Plain, "PARTITIONED BY"),
+    Entry(Group::Plain, "PROCESSLIST"),
+];
+
+const P: &[&[Entry]] = &[&[], &[], &[], &[], P_4, P_5, &[], P_7, P_8, P_9, P_10, P_11];
+
+const Q_5: &[Entry] = &[Entry(Group::Plain, "QUICK")];
+
+const Q: &[&[Entry]] = &[&[], &[], &[], &[], &[], Q_5];
+
+const R_3: &[Entry] = &[Entry(Group::Plain, "ROW")];
+
+const R_4: &[Entry] = &[Entry(Group::Plain, "READ"), Entry(Group::Plain, "ROWS")];
+
+const R_5: &[Entry] = &[
+    Entry(Group::Join, "RIGHT JOIN"),
+    Entry(Group::Join, "RIGHT OUTER JOIN"),
+    Entry(Group::Join, "RIGHT ANY JOIN"),
+    Entry(Group::Join, "RIGHT SEMI JOIN"),
+    Entry(Group::Join, "RIGHT ANTI JOIN"),
+    Entry(Group::Plain, "RAID0"),
+    Entry(Group::Plain, "RANGE"),
+    Entry(Group::Plain, "RESET"),
+    Entry(Group::Plain, "RLIKE"),
+];
+
+const R_6: &[Entry] = &[
+    Entry(Group::Plain, "REGEXP"),
+    Entry(Group::Plain, "RELOAD"),
+    Entry(Group::Plain, "RENAME"),
+    Entry(Group::Plain, "REPAIR"),
+    Entry(Group::Plain, "RETURN"),
+    Entry(Group::Plain, "REVOKE"),
+];
+
+const R_7: &[Entry] = &[
+    Entry(Group::Plain, "REPLACE"),
+    Entry(Group::Plain, "RESTORE"),
+    Entry(Group::Plain, "RETURNS"),
+];
+
+const R_8: &[Entry] = &[
+    Entry(Group::Plain, "RESTRICT"),
+    Entry(Group::Plain, "ROLLBACK"),
+];
+
+const R_9: &[Entry] = &[
+    Entry(Group::TopLevel, "RETURNING"),
+    Entry(Group::Plain, "RAID_TYPE"),
+    Entry(Group::Plain, "READ_ONLY"),
+];
+
+const R_10: &[Entry] = &[
+    Entry(Group::Plain, "READ_WRITE"),
+    Entry(Group::Plain, "REFERENCES"),
+    Entry(Group::Plain, "REPEATABLE"),
+    Entry(Group::Plain, "ROW_FORMAT"),
+];
+
+const R_11: &[Entry] = &[
+    Entry(Group::Plain, "RAID_CHUNKS"),
+    Entry(Group::Plain, "REPLICATION"),
+];
+
+const R_14: &[Entry] = &[Entry(Group::Plain, "RAID_CHUNKSIZE")];
+
+const R: &[&[Entry]] = &[
+    &[],
+    &[],
+    &[],
+    R_3,
+    R_4,
+    R_5,
+    R_6,
+    R_7,
+    R_8,
+    R_9,
+    R_10,
+    R_11,
+    &[],
+    &[],
+    R_14,
+];
+
+const S_3: &[Entry] = &[
+    Entry(Group::TopLevel, "SET CURRENT SCHEMA"),
+    Entry(Group::TopLevel, "SET SCHEMA"),
+    Entry(Group::TopLevel, "SET"),
+    Entry(Group::Plain, "SQL"),
+];
+
+const S_4: &[Entry] = &[
+    Entry(Group::Join, "SEMI JOIN"),
+    Entry(Group::Plain, "SHOW"),
+    Entry(Group::Plain, "STOP"),
+];
+
+const S_5: &[Entry] = &[
+    Entry(Group::Plain, "SHARE"),
+    Entry(Group::Plain, "SLAVE"),
+    Entry(Group::Plain, "START"),
+    Entry(Group::Plain, "SUPER"),
+];
+
+const S_6: &[Entry] = &[
+    Entry(Group::TopLevel, "SELECT DISTINCT"),
+    Entry(Group::TopLevel, "SELECT ALL"),
+    Entry(Group::TopLevel, "SELECT"),
+    Entry(Group::Plain, "SECOND"),
+    Entry(Group::Plain, "SONAME"),
+    Entry(Group::Plain, "SOUNDS"),
+    Entry(Group::Plain, "STATUS"),
+    Entry(Group::Plain, "STRING"),
+];
+
+const S_7: &[Entry] = &[
+    Entry(Group::Plain, "SESSION"),
+    Entry(Group::Plain, "STORAGE"),
+    Entry(Group::Plain, "STRIPED"),
+];
+
+const S_8: &[Entry] = &[
+    Entry(Group::Plain, "SECURITY"),
+    Entry(Group::Plain, "SHUTDOWN"),
+    Entry(Group::Plain, "STARTING"),
+];
+
+const S_9: &[Entry] = &[
+    Entry(Group::Plain, "SEPARATOR"),
+    Entry(Group::Plain, "SQL_CACHE"),
+];
+
+const S_11: &[Entry] = &[
+    Entry(Group::Plain, "SQL_LOG_BIN"),
+    Entry(Group::Plain, "SQL_LOG_OFF"),
+];
+
+const S_12: &[Entry] = &[
+    Entry(Group::Plain, "SERIALIZABLE"),
+    Entry(Group::Plain, "SQL_NO_CACHE"),
+    Entry(Group::Plain, "SQL_WARNINGS"),
+];
+
+const S_13: &[Entry] = &[Entry(Group::Plain, "STRAIGHT_JOIN")];
+
+const S_14: &[Entry] = &[
+    Entry(Group::Plain, "SQL_BIG_RESULT"),
+    Entry(Group::Plain, "SQL_BIG_TABLES"),
+    Entry(Group::Plain, "SQL_LOG_UPDATE"),
+];
+
+const S_15: &[Entry] = &[Entry(Group::Plain, "SQL_BIG_SELECTS")];
+
+const S_16: &[Entry] = &[
+    Entry(Group::Plain, "SQL_AUTO_IS_NULL"),
+    Entry(Group::Plain, "SQL_SAFE_UPDATES"),
+    Entry(Group::Plain, "SQL_SELECT_LIMIT"),
+    Entry(Group::Plain, "SQL_SMALL_RESULT"),
+];
+
+const S_17: &[Entry] = &[
+    Entry(Group::Plain, "SQL_BUFFER_RESULT"),
+    Entry(Group::Plain, "SQL_MAX_JOIN_SIZE"),
+];
+
+const S_19: &[Entry] = &[Entry(Group::Plain, "SQL_CALC_FOUND_ROWS")];
+
+const S_21: &[Entry] = &[Entry(Group::Plain, "SQL_QUOTE_SHOW_CREATE")];
+
+const S_22: &[Entry] = &[Entry(Group::Plain, "SQL_SLAVE_SKIP_COUNTER")];
+
+const S_24: &[Entry] = &[Entry(Group::Plain, "SQL_LOW_PRIORITY_UPDATES")];
+
+const S: &[&[Entry]] = &[
+    &[],
+    &[],
+    &[],
+    S_3,
+    S_4,
+    S_5,
+    S_6,
+    S_7,
+    S_8,
+    S_9,
+    &[],
+    S_11,
+    S_12,
+    S_13,
+    S_14,
+    S_15,
+    S_16,
+    S_17,
+    &[],
+    S_19,
+    &[],
+    S_21,
+    S_22,
+    &[],
+    S_24,
+];
+
+const T_2: &[Entry] = &[Entry(Group::Plain, "TO")];
+
+const T_4: &[Entry] = &[
+    Entry(Group::Plain, "THEN"),
+    Entry(Group::Plain, "TRUE"),
+    Entry(Group::Plain, "TYPE"),
+];
+
+const T_5: &[Entry] = &[Entry(Group::Plain, "TABLE"), Entry(Group::Plain, "TYPES")];
+
+const T_6: &[Entry] = &[Entry(Group::Plain, "TABLES")];
+
+const T_8: &[Entry] = &[
+    Entry(Group::Plain, "TRAILING"),
+    Entry(Group::Plain, "TRUNCATE"),
+];
+
+const T_9: &[Entry] = &[Entry(Group::Plain, "TEMPORARY")];
+
+const T_10: &[Entry] = &[Entry(Group::Plain, "TERMINATED")];
+
+const T_13: &[Entry] = &[
+    Entry(Group::Plain, "TRANSACTIONAL"),
+    Entry(Group::Plain, "TBLPROPERTIES"),
+];
+
+const T: &[&[Entry]] = &[
+    &[],
+    &[],
+    T_2,
+    &[],
+    T_4,
+    T_5,
+    T_6,
+    &[],
+    T_8,
+    T_9,
+    T_10,
+    &[],
+    &[],
+    T_13,
+];
+
+const U_3: &[Entry] = &[Entry(Group::Plain, "USE")];
+
+const U_5: &[Entry] = &[
+    Entry(Group::TopLevel, "USING"),
+    Entry(Group::NoIndent, "UNION ALL"),
+    Entry(Group::NoIndent, "UNION"),
+    Entry(Group::Plain, "USAGE"),
+];
+
+const U_6: &[Entry] = &[
+    Entry(Group::TopLevel, "UPDATE"),
+    Entry(Group::Plain, "UNIQUE"),
+    Entry(Group::Plain, "UNLOCK"),
+];
+
+const U_8: &[Entry] = &[Entry(Group::Plain, "UNSIGNED")];
+
+const U_11: &[Entry] = &[Entry(Group::Plain, "UNCOMMITTED")];
+
+const U: &[&[Entry]] = &[&[], &[], &[], U_3, &[], U_5, U_6, &[], U_8, &[], &[], U_11];
+
+const V_4: &[Entry] = &[Entry(Group::Plain, "VIEW")];
+
+const V_6: &[Entry] = &[Entry(Group::TopLevel, "VALUES")];
+
+const V_8: &[Entry] = &[Entry(Group::Newline, "VALIDATE")];
+
+const V_9: &[Entry] = &[Entry(Group::Plain, "VARIABLES")];
+
+const V: &[&[Entry]] = &[&[], &[], &[], &[], V_4, &[], V_6, &[], V_8, V_9];
+
+const W_4: &[Entry] = &[
+    Entry(Group::Newline, "WHEN"),
+    Entry(Group::NoIndent, "WITH"),
+    Entry(Group::Plain, "WHEN"),
+    Entry(Group::Plain, "WORK"),
+];
+
+const W_5: &[Entry] = &[
+    Entry(Group::TopLevel, "WHERE"),
+    Entry(Group::Plain, "WRITE"),
+];
+
+const W_6: &[Entry] = &[Entry(Group::TopLevel, "WINDOW")];
+
+const W: &[&[Entry]] = &[&[], &[], &[], &[], W_4, W_5, W_6];
+
+const X_3: &[Entry] = &[Entry(Group::Newline, "XOR")];
+
+const X: &[&[Entry]] = &[&[], &[], &[], X_3];
+
+const Y_10: &[Entry] = &[Entry(Group::Plain, "YEAR_MONTH")];
+
+const Y: &[&[Entry]] = &[&[], &[], &[], &[], &[], &[], &[], &[], &[], &[], Y_10];
+
+// The phrases that begin with a letter, by the length of their first word.
+pub fn lengths_of(letter: u8) -> &'static [&'static [Entry]]
+    ensures { (n : ℕ) → listed_at n result.now ≡ entries_long n (entries_of letter entries) }
+{
+    match letter {
+        b'$' => DOLLAR,
+        b'A' => A,
+        b'B' => B,
+        b'C' => C,
+        b'D' => D,
+        b'E' => E,
+        b'F' => F,
+        b'G' => G,
+        b'H' => H,
+        b'I' => I,
+        b'J' => J,
+        b'K' => K,
+        b'L' => L,
+        b'M' => M,
+        b'N' => N,
+        b'O' => O,
+        b'P' => P,
+        b'Q' => Q,
+        b'R' => R,
+        b'S' => S,
+        b'T' => T,
+        b'U' => U,
+        b'V' => V,
+        b'W' => W,
+        b'X' => X,
+        b'Y' => Y,
+        _ => &[],
+    }
+}

@@ -1,159 +1,84 @@
 // `get_reserved_word_token`, and what EXCEPT, SET, USING and AND ask of earlier tokens.
-ghost use Rattle.std.specs.Prelude.{◌≡◌, not, ◌&&◌, ◌||◌, ◌≤◌, length, drop, get_or};
-ghost use Rattle.characters.specs.Ranges.{within};
-ghost use Rattle.recognisers.specs.Text.{byte, bytes};
-ghost use Rattle.recognisers.specs.Same.{same};
-ghost use Rattle.recognisers.specs.Taking.{typed, is_spelled, capital, starts_with};
+ghost use Rattle.std.specs.Prelude.{◌≡◌, not, ◌&&◌, ◌≤◌, Some, length, drop};
+ghost use Rattle.recognisers.specs.Text.{byte};
+ghost use Rattle.recognisers.specs.Taking.{starts_with};
 ghost use Rattle.recognisers.specs.Inner.WordLength.{word_length};
-ghost use Rattle.recognisers.specs.declared.Taken.TheVariants.{Bytes};
-ghost use Rattle.reserved.specs.Reserved.{is_select, is_update, takes_using, top_level_kind, alias_length, top_level_token, newline_token, may_be_reserved, get_reserved_word_token};
-ghost use Rattle.reserved.specs.Inner.Entries.{Entry, entries, find_entry, token_for};
+ghost use Rattle.reserved.specs.Reserved.{top_level_kind, alias_length, top_level_token, newline_token, may_be_reserved, get_reserved_word_token};
+ghost use Rattle.reserved.specs.Inner.Entries.{entries, find_entry, token_for};
 
 use crate::TopLevel;
-use crate::tables::find_phrase;
-use recognisers::{
-    Key, Piece, Recognised, Taken, TokenKind, capital_of, is_capital, is_exactly, is_spelled,
-    stands_at, token_of,
-};
+use crate::entries::Group;
+use crate::find::find_phrase;
+use recognisers::{Key, Piece, TokenKind, is_exactly, is_spelled, stands_at, token_of};
 
-fn is_select(last: TopLevel) -> bool
-    ensures { result ≡ is_select last }
-{
-    match last {
-        TopLevel::Select => true,
-        TopLevel::Update => false,
-        TopLevel::MergeInto => false,
-        TopLevel::DeleteFrom => false,
-        TopLevel::Other => false,
-    }
-}
-
-fn is_update(last: TopLevel) -> bool
-    ensures { result ≡ is_update last }
-{
-    match last {
-        TopLevel::Select => false,
-        TopLevel::Update => true,
-        TopLevel::MergeInto => false,
-        TopLevel::DeleteFrom => false,
-        TopLevel::Other => false,
-    }
-}
-
-// No USING of its own belongs to the last top-level token.
-fn lacks_using(last: TopLevel) -> bool
-    ensures { result ≡ not (takes_using last) }
-{
-    match last {
-        TopLevel::Select => true,
-        TopLevel::Update => true,
-        TopLevel::MergeInto => false,
-        TopLevel::DeleteFrom => false,
-        TopLevel::Other => true,
-    }
-}
-
-fn is_except(value: &[u8], last: TopLevel) -> bool
-    ensures { result ≡ (same value.now (bytes "EXCEPT") && is_select last) }
-{
-    is_exactly(value, b"EXCEPT") && is_select(last)
-}
-
-fn is_set(value: &[u8], last: TopLevel) -> bool
-    ensures { result ≡ (same value.now (bytes "SET") && is_update last) }
-{
-    is_exactly(value, b"SET") && is_update(last)
-}
-
-fn is_using(value: &[u8], last: TopLevel) -> bool
-    ensures { result ≡ (same value.now (bytes "USING") && not (takes_using last)) }
-{
-    is_exactly(value, b"USING") && lacks_using(last)
-}
-
+#[tactic(auto, unfolding(crate::specs::Reserved::top_level_kind))]
 fn top_level_kind(value: &[u8], last: TopLevel) -> TokenKind
     ensures { result ≡ top_level_kind last value.now }
 {
-    if is_except(value, last) {
-        return TokenKind::Reserved;
+    match last {
+        TopLevel::MergeInto | TopLevel::DeleteFrom => TokenKind::ReservedTopLevel,
+        TopLevel::Select if is_exactly(value, b"EXCEPT") => TokenKind::Reserved,
+        TopLevel::Update if is_exactly(value, b"SET") => TokenKind::ReservedNewlineAfter,
+        _ if is_exactly(value, b"USING") => TokenKind::Reserved,
+        _ => TokenKind::ReservedTopLevel,
     }
-    if is_set(value, last) {
-        return TokenKind::ReservedNewlineAfter;
-    }
-    if is_using(value, last) {
-        return TokenKind::Reserved;
-    }
-    TokenKind::ReservedTopLevel
 }
 
-fn has_short_alias(value: &[u8]) -> bool
-    ensures { result ≡ (is_spelled typed (bytes "CREATE") value.now || is_spelled typed (bytes "SELECT") value.now) }
-{
-    is_spelled(value, b"CREATE") || is_spelled(value, b"SELECT")
-}
-
+// CREATE and SELECT stand for all phrases that begin so.
+#[tactic(auto, unfolding(crate::specs::Reserved::alias_length))]
 fn alias_length(value: &[u8]) -> usize
     ensures { result ≡ alias_length value.now }
 {
-    if has_short_alias(value) {
+    if is_spelled(value, b"CREATE") || is_spelled(value, b"SELECT") {
         return 6;
     }
     value.len()
 }
 
-fn top_level_token(rest: &[u8], n: usize, last: TopLevel) -> Recognised
+fn top_level_token(rest: &[u8], n: usize, last: TopLevel) -> Option<Piece>
     requires { n ≤ length rest.now }
-    ensures { result ≡ top_level_token last rest.now (Bytes n) }
+    ensures { result ≡ top_level_token last rest.now (Some n) }
 {
     let value = &rest[..n];
     let kind = top_level_kind(value, last);
     let alias = alias_length(value);
-    Recognised::Token(Piece {
+    Some(Piece {
         kind: kind,
         len: n,
         alias: alias,
-        key: Key::None,
+        key: None,
         escaped: 0,
     })
 }
 
-fn is_and(value: &[u8], after_between: bool) -> bool
-    ensures { result ≡ (same value.now (bytes "AND") && after_between) }
-{
-    is_exactly(value, b"AND") && after_between
-}
-
-fn newline_token(rest: &[u8], n: usize, after_between: bool) -> Recognised
+fn newline_token(rest: &[u8], n: usize, after_between: bool) -> Option<Piece>
     requires { n ≤ length rest.now }
-    ensures { result ≡ newline_token after_between rest.now (Bytes n) }
+    ensures { result ≡ newline_token after_between rest.now (Some n) }
 {
-    if is_and(&rest[..n], after_between) {
-        return token_of(TokenKind::Reserved, Taken::Bytes(n));
+    if after_between && is_exactly(&rest[..n], b"AND") {
+        return token_of(TokenKind::Reserved, Some(n));
     }
-    token_of(TokenKind::ReservedNewline, Taken::Bytes(n))
+    token_of(TokenKind::ReservedNewline, Some(n))
 }
 
-fn token_for(rest: &[u8], group: u8, n: usize, after_between: bool, last: TopLevel) -> Recognised
+fn token_for(
+    rest: &[u8],
+    group: Group,
+    n: usize,
+    after_between: bool,
+    last: TopLevel,
+) -> Option<Piece>
     requires { n ≤ length rest.now }
-    ensures { result ≡ token_for after_between last rest.now (Entry group n) }
+    ensures { result ≡ token_for after_between last rest.now (Some (group, n)) }
 {
     match group {
-        b'T' | b'D' => top_level_token(rest, n, last),
-        b'A' => token_of(TokenKind::ReservedNewlineAfter, Taken::Bytes(n)),
-        b'N' => newline_token(rest, n, after_between),
-        b'J' => token_of(TokenKind::Join, Taken::Bytes(n)),
-        b'I' => token_of(TokenKind::ReservedTopLevelNoIndent, Taken::Bytes(n)),
-        _ => token_of(TokenKind::Reserved, Taken::Bytes(n)),
+        Group::TopLevel | Group::Dropped => top_level_token(rest, n, last),
+        Group::NewlineAfter => token_of(TokenKind::ReservedNewlineAfter, Some(n)),
+        Group::Newline => newline_token(rest, n, after_between),
+        Group::Join => token_of(TokenKind::Join, Some(n)),
+        Group::NoIndent => token_of(TokenKind::ReservedTopLevelNoIndent, Some(n)),
+        Group::Plain => token_of(TokenKind::Reserved, Some(n)),
     }
-}
-
-fn starts_with_letter(rest: &[u8]) -> bool
-    ensures { result ≡ within 65 90 (capital (get_or rest.now 0 0)) }
-{
-    if rest.len() == 0 {
-        return false;
-    }
-    is_capital(capital_of(rest[0]))
 }
 
 // A letter or `$`.
@@ -161,32 +86,28 @@ fn starts_with_letter(rest: &[u8]) -> bool
 fn may_be_reserved(rest: &[u8]) -> bool
     ensures { result ≡ may_be_reserved rest.now }
 {
-    starts_with_letter(rest) || stands_at(rest, 0, b'$')
+    match rest.first() {
+        Some(b) => b.is_ascii_alphabetic() || *b == b'$',
+        None => false,
+    }
 }
 
 // A `$` without another behind it begins no phrase.
 fn is_lone_dollar(rest: &[u8]) -> bool
     ensures { result ≡ (starts_with (byte "$") rest.now && not (starts_with (byte "$") (drop 1 rest.now))) }
 {
-    if stands_at(rest, 0, b'$') {
-        return !stands_at(rest, 1, b'$');
-    }
-    false
+    stands_at(rest, 0, b'$') && !stands_at(rest, 1, b'$')
 }
 
 #[inline(always)]
-fn reserved_token(rest: &[u8], word: usize, after_between: bool, last: TopLevel) -> Recognised
+fn reserved_token(rest: &[u8], word: usize, after_between: bool, last: TopLevel) -> Option<Piece>
     requires { word ≡ word_length rest.now }
     ensures { result ≡ token_for after_between last rest.now (find_entry entries rest.now) }
 {
     if is_lone_dollar(rest) {
-        return Recognised::Nothing;
+        return None;
     }
-    let mut group = 0;
-    let n = find_phrase(rest, word, &mut group);
-    if n == 0 {
-        return Recognised::Nothing;
-    }
+    let (group, n) = find_phrase(rest, word)?;
     token_for(rest, group, n, after_between, last)
 }
 
@@ -198,15 +119,15 @@ pub fn get_reserved_word_token(
     after_dot: bool,
     after_between: bool,
     last: TopLevel,
-) -> Recognised
+) -> Option<Piece>
     requires { word ≡ word_length rest.now }
     ensures { result ≡ get_reserved_word_token after_dot after_between last rest.now }
 {
     if after_dot {
-        return Recognised::Nothing;
+        return None;
     }
-    if may_be_reserved(rest) {
-        return reserved_token(rest, word, after_between, last);
+    if !may_be_reserved(rest) {
+        return None;
     }
-    Recognised::Nothing
+    reserved_token(rest, word, after_between, last)
 }

@@ -1,16 +1,17 @@
--- For inner contracts alone: all phrases in the order in which they are tried, each with the letter of its group, and as the
--- bytes of a table.
-use Rattle.std.specs.Prelude.{ℕ, zero, suc, Bool, true, false, cond, ◌||◌, List, [], ◌∷◌, ◌++◌, leb, eqb, length, take, get_or}
+-- For inner contracts alone: all phrases in the order in which they are tried, each with its group.
+use Rattle.std.specs.Prelude.{ℕ, zero, suc, Bool, cond, List, [], ◌∷◌, ◌++◌, eqb, get_or, Option, Some, None}
+use Rattle.std.specs.Borrow.{Bor}
 use Rattle.characters.specs.Ascii.{is_ascii_word}
-use Rattle.recognisers.specs.declared.Taken.{Taken}
-use Rattle.recognisers.specs.declared.Taken.TheVariants.{Bytes, Fails}
-use Rattle.recognisers.specs.Text.{byte, bytes}
+use Rattle.recognisers.specs.declared.Piece.{Piece}
+use Rattle.recognisers.specs.Text.{bytes}
 use Rattle.recognisers.specs.Taking.{Taker, end_of_word, count}
-use Rattle.recognisers.specs.declared.TokenKind.TheVariants.{Reserved, ReservedTopLevelNoIndent, ReservedNewlineAfter, Join}
-use Rattle.recognisers.specs.declared.Recognised.{Recognised}
-use Rattle.recognisers.specs.declared.Recognised.TheVariants as R
+use Rattle.recognisers.specs.declared.TokenKind.TheVariants.{Reserved, ReservedTopLevelNoIndent, ReservedNewlineAfter}
+use Rattle.recognisers.specs.declared.TokenKind.TheVariants.{Join as JoinToken}
 use Rattle.recognisers.specs.Pieces.{token_of}
-use Rattle.reserved.specs.declared.TopLevel.{TopLevel}
+use Rattle.reserved.specs.declared.entries.Entry.{Entry}
+use Rattle.reserved.specs.declared.entries.Group.{Group}
+use Rattle.reserved.specs.declared.entries.Group.TheVariants.{TopLevel, Dropped, NewlineAfter, Newline, Join, NoIndent, Plain}
+use Rattle.reserved.specs.declared.TopLevel.{TopLevel as LastTopLevel}
 use Rattle.reserved.specs.Reserved.{top_level_token, newline_token}
 use Rattle.reserved.specs.Phrases.{Phrase, phrase, phrase_if_exists, walk, optional}
 use Rattle.reserved.specs.TopLevel.{top_level_phrases}
@@ -20,86 +21,80 @@ use Rattle.reserved.specs.Join.{join_phrases}
 use Rattle.reserved.specs.NoIndent.{no_indent_phrases}
 use Rattle.reserved.specs.Plain.{plain_two_phrases, plain_one_phrases}
 
--- a group's phrases; one that may have IF EXISTS behind it is told by a D
-unfoldable pub grouped : ℕ → List Phrase → List (ℕ × List ℕ)
+-- a group's phrases, and apart those that may have IF EXISTS behind them
+unfoldable pub grouped : Group → List Phrase → List (Group × List ℕ)
 grouped group [] = []
 grouped group (phrase words ∷ phrases) = (group, words) ∷ grouped group phrases
-grouped group (phrase_if_exists words ∷ phrases) = (byte "D", words) ∷ grouped group phrases
+grouped group (phrase_if_exists words ∷ phrases) = (Dropped, words) ∷ grouped group phrases
 
-unfoldable pub entries : List (ℕ × List ℕ)
+unfoldable pub entries : List (Group × List ℕ)
 entries =
-    grouped (byte "T") top_level_phrases
-    ++ (grouped (byte "A") newline_after_phrases
-    ++ (grouped (byte "N") newline_phrases
-    ++ (grouped (byte "J") join_phrases
-    ++ (grouped (byte "I") no_indent_phrases ++ (grouped (byte "R") plain_two_phrases ++ grouped (byte "R") plain_one_phrases)))))
+    grouped TopLevel top_level_phrases
+    ++ (grouped NewlineAfter newline_after_phrases
+    ++ (grouped Newline newline_phrases
+    ++ (grouped Join join_phrases ++ (grouped NoIndent no_indent_phrases ++ (grouped Plain plain_two_phrases ++ grouped Plain plain_one_phrases)))))
 
 unfoldable pub if_exists : Taker
 if_exists s = optional (bytes " IF EXISTS") end_of_word s
 
-abbrev pub ending : Bool → Taker
-ending true = if_exists
-ending false = end_of_word
+-- what stands behind an entry's words
+abbrev pub ending : Group → Taker
+ending TopLevel = end_of_word
+ending Dropped = if_exists
+ending NewlineAfter = end_of_word
+ending Newline = end_of_word
+ending Join = end_of_word
+ending NoIndent = end_of_word
+ending Plain = end_of_word
 
-unfoldable pub entry_end : ℕ → List ℕ → Taker
-entry_end group words s = walk words (ending (eqb group (byte "D"))) s
-
--- the entry that stands at the start of a text: its group's letter and how many bytes it takes
-pub data FoundPhrase : Type 0 where
-  Entry : ℕ → ℕ → FoundPhrase
-  Nothing : FoundPhrase
-
--- how many bytes it takes; its group's letter, or what was there before
-abbrev pub length_of : FoundPhrase → ℕ
-length_of (Entry group n) = n
-length_of Nothing = 0
-
-abbrev pub group_of : ℕ → FoundPhrase → ℕ
-group_of before (Entry group n) = group
-group_of before Nothing = before
+unfoldable pub entry_end : Group → List ℕ → Taker
+entry_end group words s = walk words (ending group) s
 
 -- the entry where it stands in the text, else another answer
-abbrev pub chosen : ℕ → Taken → FoundPhrase → FoundPhrase
-chosen group (Bytes n) other = Entry group n
-chosen group Fails other = other
+abbrev pub chosen : Group → Option ℕ → Option (Group × ℕ) → Option (Group × ℕ)
+chosen group (Some n) other = Some (group, n)
+chosen group None other = other
 
--- the first entry that stands at the start of the text
-unfoldable pub find_entry : List (ℕ × List ℕ) → List ℕ → FoundPhrase
-find_entry [] s = Nothing
+-- the first entry that stands at the start of the text: its group and how many bytes it takes
+unfoldable pub find_entry : List (Group × List ℕ) → List ℕ → Option (Group × ℕ)
+find_entry [] s = None
 find_entry (entry ∷ entries) s = chosen entry.0 (entry_end entry.0 entry.1 s) (find_entry entries s)
 
--- ---- a table: for each entry its group's letter, the length of its words, and the words
+-- ---- the table
 
-unfoldable pub encoded : List (ℕ × List ℕ) → List ℕ
-encoded [] = []
-encoded (entry ∷ entries) = entry.0 ∷ length entry.1 ∷ (entry.1 ++ encoded entries)
+-- its entries, as they stand in `entries`
+unfoldable pub listed : List Entry → List (Group × List ℕ)
+listed [] = []
+listed (entry ∷ entries) = (entry.0, entry.1.now) ∷ listed entries
+
+-- those of a length, where they stand by their length
+unfoldable pub listed_at : ℕ → List (Bor (List Entry)) → List (Group × List ℕ)
+listed_at n [] = []
+listed_at zero (entries ∷ lengths) = listed entries.now
+listed_at (suc n) (entries ∷ lengths) = listed_at n lengths
 
 -- the entries whose words begin with a letter
-unfoldable pub entries_of : ℕ → List (ℕ × List ℕ) → List (ℕ × List ℕ)
+unfoldable pub entries_of : ℕ → List (Group × List ℕ) → List (Group × List ℕ)
 entries_of letter [] = []
 entries_of letter (entry ∷ entries) =
     cond (eqb (get_or entry.1 0 0) letter) (entry ∷ entries_of letter entries) (entries_of letter entries)
 
 -- those whose first word has this length
-unfoldable pub entries_long : ℕ → List (ℕ × List ℕ) → List (ℕ × List ℕ)
+unfoldable pub entries_long : ℕ → List (Group × List ℕ) → List (Group × List ℕ)
 entries_long n [] = []
 entries_long n (entry ∷ entries) = cond (eqb (count is_ascii_word entry.1) n) (entry ∷ entries_long n entries) (entries_long n entries)
 
--- the first entry of a table, where its first `passed` bytes belong to an entry that has been tried
-unfoldable pub table_find : ℕ → List ℕ → List ℕ → FoundPhrase
-table_find passed [] s = Nothing
-table_find (suc passed) (b ∷ table) s = table_find passed table s
-table_find zero (group ∷ []) s = Nothing
-table_find zero (group ∷ n ∷ table) s =
-    cond (leb n (length table)) (chosen group (entry_end group (take n table) s) (table_find n table s)) Nothing
-
 -- ---- the token that an entry makes
 
-abbrev pub token_for : Bool → TopLevel → List ℕ → FoundPhrase → Recognised
-token_for after_between last s Nothing = R.Nothing
-token_for after_between last s (Entry group n) =
-    cond (eqb group (byte "T") || eqb group (byte "D")) (top_level_token last s (Bytes n))
-    (cond (eqb group (byte "A")) (token_of ReservedNewlineAfter (Bytes n))
-    (cond (eqb group (byte "N")) (newline_token after_between s (Bytes n))
-    (cond (eqb group (byte "J")) (token_of Join (Bytes n))
-    (cond (eqb group (byte "I")) (token_of ReservedTopLevelNoIndent (Bytes n)) (token_of Reserved (Bytes n))))))
+abbrev pub entry_token : Bool → LastTopLevel → List ℕ → Group → Option ℕ → Option Piece
+entry_token after_between last s TopLevel n = top_level_token last s n
+entry_token after_between last s Dropped n = top_level_token last s n
+entry_token after_between last s NewlineAfter n = token_of ReservedNewlineAfter n
+entry_token after_between last s Newline n = newline_token after_between s n
+entry_token after_between last s Join n = token_of JoinToken n
+entry_token after_between last s NoIndent n = token_of ReservedTopLevelNoIndent n
+entry_token after_between last s Plain n = token_of Reserved n
+
+abbrev pub token_for : Bool → LastTopLevel → List ℕ → Option (Group × ℕ) → Option Piece
+token_for after_between last s None = None
+token_for after_between last s (Some found) = entry_token after_between last s found.0 (Some found.1)

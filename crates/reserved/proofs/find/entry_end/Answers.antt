@@ -1,17 +1,15 @@
-use Rattle.reserved.proofs.PhraseWalk.{words_fit, entry_yes, entry_no, entry_fits}
+use Rattle.std.proofs.Common.{rules}
+use Rattle.reserved.proofs.PhraseWalk.{words_inside, entry_yes, entry_no, entry_fits}
 use Rattle.reserved.proofs.find.entry_end.Goals as goal
 
-pub slice_bounds-ending_of-count : goal.slice_bounds-ending_of-count
-slice_bounds-ending_of-count c = search words_fit
+pub returns-in_err-n-clause-value : goal.returns-in_err-n-clause-value
+returns-in_err-n-clause-value c = entry_no _ _ _ _ c.from_residual.ensures c.in_err-n.ensures.value
 
-pub slice_bounds-ending_of-start : goal.slice_bounds-ending_of-start
-slice_bounds-ending_of-start c = search words_fit
+pub ending_of-requires : goal.ending_of-requires
+ending_of-requires c = rw c.words_end.ensures.rest (words_inside _ _ _ c.in_ok-n.ensures.value)
 
 pub n_more-requires : goal.n_more-requires
-n_more-requires c = search entry_fits
+n_more-requires c = entry_fits _ _ _ _ c.in_ok-n.ensures.value _ (rw c.words_end.ensures.rest at c.ending_of.ensures.value) (search rules)
 
-pub returns-in-Bytes-clause-value : goal.returns-in-Bytes-clause-value
-returns-in-Bytes-clause-value c = search entry_yes
-
-pub returns-in-Fails-clause-value : goal.returns-in-Fails-clause-value
-returns-in-Fails-clause-value c = search entry_no
+pub returns-clause-value : goal.returns-clause-value
+returns-clause-value c = entry_yes _ _ _ _ c.in_ok-n.ensures.value _ (rw c.words_end.ensures.rest at c.ending_of.ensures.value) _ c.n_more.ensures

@@ -1,24 +1,19 @@
 use Rattle.std.proofs.Common.{rules}
-use Rattle.reserved.proofs.FirstEntry.{cut_length, cut_group, find_here, group_here, find_next, end_length, end_group}
+use Rattle.reserved.proofs.FirstEntry.{found_here, found_later, found_nowhere}
 use Rattle.reserved.proofs.find.find_in.Goals as goal
 
-pub returns-then-table-start-clause-value : goal.returns-then-table-start-clause-value
-returns-then-table-start-clause-value c = search cut_length
+pub returns-in-Some : goal.returns-in-Some
+returns-in-Some c =
+    let w = c.loop-entry.invariant in
+    found_here _ _ _ _ w.searched c.loop-entry-test.true _ (rw (c.as_bytes.ensures.value, w.same_rest) at c.in-Some.ensures.value)
 
-pub returns-then-table-start-clause-found_after : goal.returns-then-table-start-clause-found_after
-returns-then-table-start-clause-found_after c = search cut_group
+pub loop-entry-preserved : goal.loop-entry-preserved
+loop-entry-preserved c =
+    let w = c.loop-entry.invariant in
+    record {
+      searched = found_later _ _ _ _ w.searched c.loop-entry-test.true (rw (c.as_bytes.ensures.value, w.same_rest) at c.in_default.ensures.value);
+      same_rest = search rules;
+    }
 
-pub returns-in-Bytes-clause-value : goal.returns-in-Bytes-clause-value
-returns-in-Bytes-clause-value c = search find_here
-
-pub returns-in-Bytes-clause-found_after : goal.returns-in-Bytes-clause-found_after
-returns-in-Bytes-clause-found_after c = search group_here
-
-pub loop-at-preserved : goal.loop-at-preserved
-loop-at-preserved c = (search find_next, (search rules, search rules))
-
-pub returns-clause-value : goal.returns-clause-value
-returns-clause-value c = search end_length
-
-pub returns-clause-found_after : goal.returns-clause-found_after
-returns-clause-found_after c = search end_group
+pub returns : goal.returns
+returns c = found_nowhere _ _ _ c.loop-entry.invariant.searched c.loop-entry-test.false

@@ -1,10 +1,7 @@
-use Prim.Native.Nat.{◌-◌}
-use lib.ListN.{length}
-use Rattle.reserved.proofs.MeasuredGaps.{MeasuredWalk}
+use mathlib.Core.Path.{◌≡◌}
+use lib.ListN.{drop}
+use Rattle.reserved.proofs.PhraseWalk.{WalkAt}
 use Rattle.reserved.proofs.find.words_end.Given as goal
 
-abbrev pub invariant-loop-i : goal.invariant-loop-i
-invariant-loop-i l = MeasuredWalk l.words l.rest l.gaps l.at l.i l.slot
-
-abbrev pub decreases-loop-i : goal.decreases-loop-i
-decreases-loop-i l = length l.words - l.i
+abbrev pub invariant-loop-w : goal.invariant-loop-w
+invariant-loop-w l = record { walked : WalkAt l.words (drop l.from l.fn.gaps.rest.now) l.n l.w-index; same_rest : l.gaps.rest ≡ l.fn.gaps.rest }

@@ -4,8 +4,8 @@ use Rattle.reserved.proofs.words.get_reserved_word_token.Goals as goal
 pub returns-then-after_dot : goal.returns-then-after_dot
 returns-then-after_dot c = search after_dot_lem
 
-pub returns-then-may_be_reserved : goal.returns-then-may_be_reserved
-returns-then-may_be_reserved c = search reserved_word
+pub returns-then-not-may_be_reserved : goal.returns-then-not-may_be_reserved
+returns-then-not-may_be_reserved c = search no_letter
 
 pub returns : goal.returns
-returns c = search no_letter
+returns c = search reserved_word

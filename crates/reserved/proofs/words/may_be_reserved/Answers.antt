@@ -1,11 +1,11 @@
-use Rattle.characters.proofs.ShortCircuit.{or_first, or_second}
-use Rattle.reserved.specs.Reserved.{may_be_reserved}
+use Rattle.reserved.proofs.FirstLetter.{letter_first, other_first, no_first}
 use Rattle.reserved.proofs.words.may_be_reserved.Goals as goal
 
-pub returns-then-starts_with_letter : goal.returns-then-starts_with_letter
-unfolding may_be_reserved
-returns-then-starts_with_letter c = search or_first
+pub returns-then-is_ascii_alphabetic : goal.returns-then-is_ascii_alphabetic
+returns-then-is_ascii_alphabetic c = letter_first _ _ c.in-Some.ensures.value _ c.is_ascii_alphabetic.ensures.value c.if-is_ascii_alphabetic.true
 
-pub returns-else-starts_with_letter : goal.returns-else-starts_with_letter
-unfolding may_be_reserved
-returns-else-starts_with_letter c = search or_second
+pub returns-else-is_ascii_alphabetic : goal.returns-else-is_ascii_alphabetic
+returns-else-is_ascii_alphabetic c = other_first _ _ c.in-Some.ensures.value _ c.is_ascii_alphabetic.ensures.value c.if-is_ascii_alphabetic.false
+
+pub returns-in-None : goal.returns-in-None
+returns-in-None c = no_first _ c.in-None.ensures.value
