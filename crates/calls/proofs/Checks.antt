@@ -1,53 +1,25 @@
--- What `check` answers, as its code has it, and what an accepted call keeps to.
+-- What an accepted call keeps to.
 -- Assumes nothing.
-use Prim.Native.Nat.{ℕ, ◌≤◌, ◌<◌}
+use Rattle.std.specs.Prelude.{Ok, Err}
+use Prim.Native.Nat.{ℕ, ◌≤◌}
 use native.Mathlib.Omega.{arith}
-use mathlib.Core.Path.{◌≡◌, refl, ◌∙◌}
+use mathlib.Core.Path.{◌≡◌, refl}
 use mathlib.Core.Bool.{Bool, true, false, cond}
 use mathlib.Core.List.{List}
-use borrow.Author.Tests.{lt-ltb, le-ltb, ltb-false}
+use borrow.Author.Tests.{le-ltb, ltb-false}
 use lib.Dec.{ltb}
 use lib.ListN.{length}
-use Rattle.characters.specs.declared.IllFormed.{IllFormed}
-use Rattle.characters.specs.declared.IllFormed.TheVariants.{At, Nowhere}
+use Rattle.std.specs.declared.option.Option.{Option}
+use Rattle.std.specs.declared.option.Option.TheVariants.{Some, None}
 use Rattle.characters.specs.Utf8.{first_ill_formed, well_formed}
 use Rattle.characters.proofs.WellFormedSteps.{ill_formed_nowhere}
-use Rattle.calls.specs.declared.Checked.{Checked}
-use Rattle.calls.specs.declared.Checked.TheVariants.{Accepted, Refused}
 use Rattle.calls.specs.declared.Refusal.{Refusal}
 use Rattle.calls.specs.declared.Refusal.TheVariants.{Overlong, NotUtf8, Setting}
 use Rattle.calls.specs.declared.Settings.{Settings}
 use Rattle.calls.specs.Settings.{is_setting, settings_of}
 use Rattle.calls.specs.Checks.{longest, when_utf8, checked_text, checked}
 
--- ---- each answer
-
-module _ (settings : Settings) (s : List ℕ) where
-  pub overlong_refused : 65536 < length s → Refused (Overlong (length s)) ≡ checked_text settings s
-  unfolding checked_text
-  overlong_refused h = rw (lt-ltb _ _ h)
-
-  module _ (h : length s ≤ 65536) (r : IllFormed) (q : r ≡ first_ill_formed s) where
-    pub ill_formed_refused : (place : ℕ) → r ≡ At place → Refused (NotUtf8 place) ≡ checked_text settings s
-    unfolding checked_text
-    ill_formed_refused place k = rw (le-ltb _ _ h, ← q, k)
-
-    pub text_accepted : r ≡ Nowhere → Accepted settings ≡ checked_text settings s
-    unfolding checked_text
-    text_accepted k = rw (le-ltb _ _ h, ← q, k)
-
-module _ (dialect joins named : ℕ) (s : List ℕ) (t : Bool) (e : t ≡ is_setting dialect joins named) where
-  pub setting_refused : t ≡ false → Refused Setting ≡ checked dialect joins named s
-  unfolding checked
-  setting_refused f = rw (← e, f)
-
-  pub setting_accepted : (settings : Settings) (r : Checked) → t ≡ true → settings ≡ settings_of dialect joins named → r ≡ checked_text settings s → r ≡ checked dialect joins named s
-  unfolding checked
-  setting_accepted settings r f g k = k ∙ rw (← e, f, g)
-
--- ---- what acceptance says
-
-pub refused_accepted : (refusal : Refusal) (settings : Settings) → Refused refusal ≡ Accepted settings → ⊥
+pub refused_accepted : (refusal : Refusal) (settings : Settings) → Err refusal ≡ Ok settings → ⊥
 refused_accepted refusal settings e = let z : ◌≡◌ {A = ℕ} 0 1 = cc in let w : ⊥ = omega arith in w
 
 module _ (dialect joins named : ℕ) (settings : Settings) where
@@ -57,21 +29,21 @@ module _ (dialect joins named : ℕ) (settings : Settings) where
     pub short : length s ≤ longest
     pub utf8 : well_formed s ≡ true
 
-  pub accepts : (s : List ℕ) → checked dialect joins named s ≡ Accepted settings → Accepts s
+  pub accepts : (s : List ℕ) → checked dialect joins named s ≡ Ok settings → Accepts s
   unfolding checked checked_text
   accepts s e = go (is_setting dialect joins named) (ltb longest (length s)) (first_ill_formed s) refl refl refl e
     where
-      go : (t u : Bool) (i : IllFormed) → is_setting dialect joins named ≡ t → ltb longest (length s) ≡ u → first_ill_formed s ≡ i
-          → cond t (cond u (Refused (Overlong (length s))) (when_utf8 (settings_of dialect joins named) i)) (Refused Setting) ≡ Accepted settings → Accepts s
+      go : (t u : Bool) (i : Option ℕ) → is_setting dialect joins named ≡ t → ltb longest (length s) ≡ u → first_ill_formed s ≡ i
+          → cond t (cond u (Err (Overlong (length s))) (when_utf8 (settings_of dialect joins named) i)) (Err Setting) ≡ Ok settings → Accepts s
       go true true i f g h e = absurd (refused_accepted (Overlong (length s)) settings e)
-      go true false (At k) f g h e = absurd (refused_accepted (NotUtf8 k) settings e)
-      go true false Nowhere f g h e =
+      go true false (Some k) f g h e = absurd (refused_accepted (NotUtf8 k) settings e)
+      go true false None f g h e =
           record { setting = f; is = (let k : settings_of dialect joins named ≡ settings = cc in k); short = ltb-false longest (length s) g; utf8 = (ill_formed_nowhere s).0 h }
       go false u i f g h e = absurd (refused_accepted Setting settings e)
 
-  pub accepted : (s : List ℕ) → Accepts s → checked dialect joins named s ≡ Accepted settings
+  pub accepted : (s : List ℕ) → Accepts s → checked dialect joins named s ≡ Ok settings
   unfolding checked checked_text
   accepted s a = rw (a.setting, a.is, le-ltb longest (length s) a.short, (ill_formed_nowhere s).1 a.utf8)
 
-pub accepted_short : (dialect joins named : ℕ) (s : List ℕ) (settings : Settings) → checked dialect joins named s ≡ Accepted settings → length s ≤ longest
+pub accepted_short : (dialect joins named : ℕ) (s : List ℕ) (settings : Settings) → checked dialect joins named s ≡ Ok settings → length s ≤ longest
 accepted_short dialect joins named s settings e = (accepts dialect joins named settings s e).short

@@ -1,5 +1,6 @@
 -- The answer of a call that writes a text, as its code has it; the text lies inside the output.
 -- Assumes nothing.
+use Rattle.std.specs.Prelude.{Result, Ok, Err}
 use Prim.Native.Nat.{ℕ, ◌≤◌, ◌<◌}
 use native.Mathlib.Omega.{arith}
 use mathlib.Core.Path.{◌≡◌, refl, sym, ◌∙◌}
@@ -8,19 +9,15 @@ use mathlib.Core.Bool.{Bool, true, false}
 use borrow.Author.Tests.{lt-ltb, le-ltb, ltb-false}
 use lib.Dec.{ltb}
 use lib.ListN.{length, drop, length-append, length-drop}
-use Rattle.calls.specs.declared.Checked.{Checked}
-use Rattle.calls.specs.declared.Checked.TheVariants as C
 use Rattle.calls.specs.declared.Refusal.{Refusal}
 use Rattle.calls.specs.declared.Refusal.TheVariants.{OutputFull}
 use Rattle.calls.specs.declared.Settings.{Settings}
-use Rattle.calls.specs.declared.TextAnswer.{TextAnswer}
-use Rattle.calls.specs.declared.TextAnswer.TheVariants.{Written, Refused}
 use Rattle.calls.specs.Texts.{text_answer, text_after, call_answer, call_output}
 
 -- ---- a text of known length
 
 module _ (text output : List ℕ) (n : ℕ) (c : n ≡ length text) where
-  pub full_answer : length output < n → Refused (OutputFull n) ≡ text_answer text (length output)
+  pub full_answer : length output < n → Err (OutputFull n) ≡ text_answer text (length output)
   unfolding text_answer
   full_answer f = rw (← c, lt-ltb _ _ f)
 
@@ -31,7 +28,7 @@ module _ (text output : List ℕ) (n : ℕ) (c : n ≡ length text) where
   pub written_room : n ≤ length output → length text ≤ length output
   written_room f = rw (← c) f
 
-  pub written_answer : (m : ℕ) → n ≤ length output → m ≡ length text → Written m ≡ text_answer text (length output)
+  pub written_answer : (m : ℕ) → n ≤ length output → m ≡ length text → Ok m ≡ text_answer text (length output)
   unfolding text_answer
   written_answer m f e = rw (e, ← c, le-ltb _ _ f)
 
@@ -44,45 +41,24 @@ module _ (text output : List ℕ) (most : ℕ) (short : length text ≤ most) (f
   pub most_room : length text ≤ length output
   most_room = omega arith
 
-  pub most_answer : (n : ℕ) → n ≡ length text → Written n ≡ text_answer text (length output)
+  pub most_answer : (n : ℕ) → n ≡ length text → Ok n ≡ text_answer text (length output)
   most_answer n c = written_answer text output (length text) refl n most_room c
 
   pub most_output : (after : List ℕ) → after ≡ text ++ drop (length text) output → after ≡ text_after text output
   most_output after e = written_output text output (length text) refl after most_room e
 
--- ---- the whole call
-
-module _ (text : Settings → List ℕ) (output : List ℕ) (c r : Checked) (e : r ≡ c) where
-  module _ (refusal : Refusal) (k : r ≡ C.Refused refusal) where
-    pub refused_answer : Refused refusal ≡ call_answer text (length output) c
-    unfolding call_answer
-    refused_answer = rw (← e, k)
-
-    pub refused_output : output ≡ call_output text output c
-    unfolding call_output
-    refused_output = rw (← e, k)
-
-  module _ (settings : Settings) (k : r ≡ C.Accepted settings) where
-    pub accepted_answer : (answer : TextAnswer) → answer ≡ text_answer (text settings) (length output) → answer ≡ call_answer text (length output) c
-    unfolding call_answer
-    accepted_answer answer g = g ∙ rw (← e, k)
-
-    pub accepted_output : (after : List ℕ) → after ≡ text_after (text settings) output → after ≡ call_output text output c
-    unfolding call_output
-    accepted_output after g = g ∙ rw (← e, k)
-
 -- ---- where a text was written it lies inside the output
 
-text_inside : (text : List ℕ) (room n : ℕ) → text_answer text room ≡ Written n → n ≤ room
+text_inside : (text : List ℕ) (room n : ℕ) → text_answer text room ≡ Ok n → n ≤ room
 unfolding text_answer
 text_inside text room n e = go (ltb room (length text)) refl
   where
     go : (b : Bool) → ltb room (length text) ≡ b → n ≤ room
     go true f =
-        let g : Refused (OutputFull (length text)) ≡ Written n = sym (rw f) ∙ e in
+        let g : Err (OutputFull (length text)) ≡ Ok n = sym (rw f) ∙ e in
         let h : ◌≡◌ {A = ℕ} 0 1 = cc in
         absurd (let z : ⊥ = omega arith in z)
-    go false f = let g : Written (length text) ≡ Written n = sym (rw f) ∙ e in let h : length text ≡ n = cc in rw (← h) (ltb-false _ _ f)
+    go false f = let g : Ok (length text) ≡ Ok n = sym (rw f) ∙ e in let h : length text ≡ n = cc in rw (← h) (ltb-false _ _ f)
 
 text_long : (text output : List ℕ) → length (text_after text output) ≡ length output
 unfolding text_after
@@ -93,15 +69,15 @@ text_long text output = go (ltb (length output) (length text)) refl
     go false f = let h : length text ≤ length output = ltb-false _ _ f in rw (f, length-append, length-drop) (omega arith)
 
 module _ (text : Settings → List ℕ) where
-  call_inside : (room n : ℕ) (c : Checked) → call_answer text room c ≡ Written n → n ≤ room
+  call_inside : (room n : ℕ) (c : Result Settings Refusal) → call_answer text room c ≡ Ok n → n ≤ room
   unfolding call_answer
-  call_inside room n (C.Accepted settings) e = text_inside (text settings) room n e
-  call_inside room n (C.Refused refusal) e = let h : ◌≡◌ {A = ℕ} 0 1 = cc in absurd (let z : ⊥ = omega arith in z)
+  call_inside room n (Ok settings) e = text_inside (text settings) room n e
+  call_inside room n (Err refusal) e = let h : ◌≡◌ {A = ℕ} 0 1 = cc in absurd (let z : ⊥ = omega arith in z)
 
-  call_long : (output : List ℕ) (c : Checked) → length (call_output text output c) ≡ length output
+  call_long : (output : List ℕ) (c : Result Settings Refusal) → length (call_output text output c) ≡ length output
   unfolding call_output
-  call_long output (C.Accepted settings) = text_long (text settings) output
-  call_long output (C.Refused refusal) = refl
+  call_long output (Ok settings) = text_long (text settings) output
+  call_long output (Err refusal) = refl
 
-  pub call_written : (output : List ℕ) (c : Checked) (n : ℕ) → call_answer text (length output) c ≡ Written n → n ≤ length (call_output text output c)
+  pub call_written : (output : List ℕ) (c : Result Settings Refusal) (n : ℕ) → call_answer text (length output) c ≡ Ok n → n ≤ length (call_output text output c)
   call_written output c n e = rw call_long (call_inside (length output) n c e)

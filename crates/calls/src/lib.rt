@@ -11,9 +11,8 @@ mod texts;
 
 pub use checking::check;
 pub use copying::{put_bytes, put_from};
-pub use little_endian::{le16_at, le24_at, le32_at, put_le16, put_le24, put_le32};
-pub use refusals::{refusal_detail, refusal_number};
-pub use texts::{text_detail, text_number};
+pub use little_endian::{le_at, put_le};
+pub use texts::numbers_of;
 
 #[derive(Clone, Copy)]
 pub struct Settings {
@@ -23,7 +22,7 @@ pub struct Settings {
 }
 
 // Why a call is turned away. What it answers on success is its own.
-#[derive(Clone, Copy)]
+#[derive(Clone, Copy, Debug, PartialEq, Eq)]
 pub enum Refusal {
     Overlong(u64),
     NotUtf8(u64),
@@ -32,18 +31,4 @@ pub enum Refusal {
     Sheet,
     OutputFull(u64),
     PartsFull(u64),
-}
-
-// A statement under settings, accepted or refused.
-#[derive(Clone, Copy)]
-pub enum Checked {
-    Accepted(Settings),
-    Refused(Refusal),
-}
-
-// What a call answers that writes a text: how many bytes it wrote.
-#[derive(Clone, Copy)]
-pub enum TextAnswer {
-    Written(u64),
-    Refused(Refusal),
 }

@@ -1,24 +1,16 @@
-// The answer of a call that writes a text, as two numbers.
-ghost use Rattle.std.specs.Prelude.{◌≡◌};
+// The answer of a call that tells one number, as two: 0 and that number, or the refusal's.
+ghost use Rattle.std.specs.Prelude.{◌≡◌, ◌<◌};
 ghost use Rattle.calls.specs.Texts.{text_number, text_detail};
 
-use crate::TextAnswer;
-use crate::refusals::{refusal_detail, refusal_number};
+use crate::Refusal;
 
-pub fn text_number(answer: TextAnswer) -> u64
-    ensures { result ≡ text_number answer }
+pub fn numbers_of(answer: Result<u64, Refusal>) -> (u64, u64)
+    ensures number { result.0 ≡ text_number answer }
+    ensures number_bound { result.0 < 8 }
+    ensures detail { result.1 ≡ text_detail answer }
 {
     match answer {
-        TextAnswer::Written(_) => 0,
-        TextAnswer::Refused(refusal) => refusal_number(refusal),
-    }
-}
-
-pub fn text_detail(answer: TextAnswer) -> u64
-    ensures { result ≡ text_detail answer }
-{
-    match answer {
-        TextAnswer::Written(n) => n,
-        TextAnswer::Refused(refusal) => refusal_detail(refusal),
+        Ok(detail) => (0, detail),
+        Err(refusal) => (refusal.number(), refusal.detail()),
     }
 }

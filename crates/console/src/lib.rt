@@ -7,18 +7,22 @@ ghost use Rattle.std.specs.Io.{ReadsAtMost};
 ghost use Rattle.std.specs.Io.KnownBytes.{Appends, Consumes, IsAtEnd};
 ghost use Rattle.console.specs.Printed.{WrittenInside, answer_text, refused_line, refusal_line};
 
-use calls::{Refusal, TextAnswer, refusal_number};
+use calls::Refusal;
 use std::io;
 use std::io::{Read, Write};
 
 // One byte more than a statement or a sheet may have: all that a call needs to refuse a longer one.
-pub fn text_space() -> [u8; 65537]
-    ensures { 65537 ≡ length result }
+pub const TEXT_SPACE: usize = 65537;
+
+// No literal where it is called: the check would go through each of its elements.
+pub fn zeroed<const N: usize>() -> [u8; N]
+    ensures { N ≡ length result }
 {
-    [0; 65537]
+    [0; N]
 }
 
-// Reads to the end of the input or of the space, and answers how many bytes there were.
+// Reads to the end of the input or of the space, and answers how many bytes there were. A `while`: a turn reads what the input gives,
+// so that nothing counts the turns.
 pub fn read_text<R: Read>(input: &mut R, space: &mut [u8]) -> io::Result<usize>
     ensures bound { ReadsAtMost result space.new }
     ensures bytes { IfOk result (λ n. Consumes (R.remaining input.old) (R.remaining input.new) (take n space.new)) }
@@ -65,19 +69,23 @@ pub fn print_refused<W: Write>(output: &mut W, number: u64) -> io::Result<()>
 pub fn print_refusal<W: Write>(output: &mut W, refusal: Refusal) -> io::Result<()>
     ensures { OnOk result (Appends (W.contents output.old) (W.contents output.new) (refusal_line refusal)) }
 {
-    print_refused(output, refusal_number(refusal))
+    writeln!(output, "{refusal}")
 }
 
 // The text that a call wrote and nothing else, or its refusal.
-pub fn print_answer<W: Write>(output: &mut W, answer: TextAnswer, text: &[u8]) -> io::Result<()>
+pub fn print_answer<W: Write>(
+    output: &mut W,
+    answer: Result<u64, Refusal>,
+    text: &[u8],
+) -> io::Result<()>
     requires { WrittenInside answer (length text.now) }
     ensures { OnOk result (Appends (W.contents output.old) (W.contents output.new) (answer_text answer text.now)) }
 {
     match answer {
-        TextAnswer::Written(count) => {
+        Ok(count) => {
             let end = count as usize;
             print(output, &text[..end])
         }
-        TextAnswer::Refused(refusal) => print_refusal(output, refusal),
+        Err(refusal) => print_refusal(output, refusal),
     }
 }
