@@ -2,18 +2,9 @@
 use Rattle.std.proofs.Common.{◌≡◌, ℕ, List, [], ◌∷◌, ◌++◌, Option, Result, Ok, Err, OnOk, sym, ap, ◌∙◌, append_assoc, append-nil}
 use Rattle.std.proofs.KnownBytes.{Appends-trans}
 use Rattle.std.specs.Io.KnownBytes.{Appends}
-use Rattle.calls.specs.declared.Settings.{Settings}
-use Rattle.tokenizer.specs.declared.Cursor.{Cursor}
 use Rattle.tokenizer.specs.declared.Token.{Token}
 use Rattle.tokenizer.specs.Levels.{level_past}
-use Rattle.tokenizer.specs.Memory.{start}
-use Rattle.tokenizer.specs.Tokens.{tokens}
-use Rattle.tokenizer.proofs.Steps.{left}
 use Rattle.token_lines.specs.Printed.{token_line, lines_from}
-
-pub lines_start : (settings : Settings) (s : List ℕ) (c : Cursor) → c ≡ record { at = 0; memory = start } → [] ++ lines_from 0 (left settings s c) ≡ lines_from 0 (tokens settings s)
-unfolding tokens
-lines_start settings s c e = ap (λ (d : Cursor). lines_from 0 (left settings s d)) e
 
 module _ (level : ℕ) (ts : List Token) (passed whole : List ℕ) (before : passed ++ lines_from level ts ≡ whole) where
   pub lines_more : (next : ℕ) (t : Token) (rest : List Token) → next ≡ level_past level t.kind → ts ≡ t ∷ rest → (passed ++ token_line level t) ++ lines_from next rest ≡ whole

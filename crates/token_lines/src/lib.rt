@@ -10,7 +10,7 @@ use calls::Settings;
 use console::{print, print_next, print_number};
 use std::io;
 use std::io::Write;
-use tokenizer::{KeyWords, Step, Token};
+use tokenizer::{KeyWords, Token, Tokens};
 
 fn print_key<W: Write>(output: &mut W, key: KeyWords) -> io::Result<()>
     ensures { OnOk result (Appends (W.contents output.old) (W.contents output.new) (key_fields key)) }
@@ -42,21 +42,12 @@ fn print_tokens<W: Write>(output: &mut W, statement: &[u8], settings: Settings) 
     ensures { OnOk result (Appends (W.contents output.old) (W.contents output.new) (lines_from 0 (tokens settings statement.now))) }
 {
     let mut level = 0;
-    let mut hints = recognisers::no_hints();
-    let mut cursor = tokenizer::at_start();
-    loop {
-        match tokenizer::next_step(statement, settings, cursor, &mut hints) {
-            Step::Token(token, next) => {
-                print_token(output, token, level)?;
-                let kind = token.kind;
-                level = tokenizer::level_past(level, kind);
-                cursor = next;
-            }
-            Step::Done => {
-                return Ok(());
-            }
-        }
+    for token in Tokens::new(statement, settings) {
+        print_token(output, token, level)?;
+        let kind = token.kind;
+        level = tokenizer::level_past(level, kind);
     }
+    Ok(())
 }
 
 pub fn print_list<W: Write>(output: &mut W, statement: &[u8], settings: Settings) -> io::Result<()>

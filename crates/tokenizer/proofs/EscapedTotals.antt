@@ -1,5 +1,6 @@
 -- The sum of the escaped quotes over the tokens: a walk in which each token adds a mark for each, and how large the sum can be.
 -- Assumes nothing.
+use Rattle.std.proofs.Common.{Some}
 use Prim.Native.Nat.{ℕ, zero, suc, ◌*◌, ◌/◌, ◌^◌, ◌≤◌, ◌<◌, zero-le}
 use native.Mathlib.Omega.{arith}
 use mathlib.Core.Path.{◌≡◌, refl, ap}
@@ -7,10 +8,9 @@ use mathlib.Core.List.{List, [], ◌∷◌, ◌++◌}
 use lib.ListN.{length, drop, length-append}
 use lib.Seq.{length-take-le}
 use Rattle.recognisers.specs.declared.Piece.{Piece}
-use Rattle.recognisers.specs.declared.Recognised.TheVariants as R
 use Rattle.recognisers.proofs.PieceSizes.{Sized}
 use Rattle.calls.specs.declared.Settings.{Settings}
-use Rattle.tokenizer.specs.declared.Cursor.{Cursor}
+use Rattle.tokenizer.specs.declared.walking.Tokens.{Tokens}
 use Rattle.tokenizer.specs.declared.Memory.{Memory}
 use Rattle.tokenizer.specs.declared.Token.{Token}
 use Rattle.tokenizer.specs.declared.Totals.{Totals}
@@ -23,6 +23,7 @@ use Rattle.tokenizer.proofs.EachToken.{Each, each_token}
 use Rattle.tokenizer.proofs.EndToEnd.{end_to_end}
 use Rattle.tokenizer.proofs.NextPieceSizes.{piece_sized}
 use Rattle.tokenizer.proofs.RecordBytes.{record_walk, records_count}
+use Rattle.tokenizer.proofs.LevelLaws.{Low}
 use Rattle.tokenizer.proofs.Walks.{Walk, Counted, Wrote}
 
 -- ---- the walk
@@ -65,9 +66,9 @@ module _ (settings : Settings) (s : List ℕ) where
   few_each : Each (Few s) (tokens settings s)
   few_each = each_token settings s (Few s) (λ at. Unit {0}) one tt
     where
-      one : (memory : Memory) (at : ℕ) (p : Piece) → at < length s → Unit {0} → next_piece settings memory (drop at s) ≡ R.Token p → Few s (token_at settings at p) × Unit {0}
+      one : (memory : Memory) (at : ℕ) (p : Piece) → at < length s → Unit {0} → next_piece settings memory (drop at s) ≡ Some p → Few s (token_at settings at p) × Unit {0}
       one memory at p h u e =
-          let f : Sized (drop at s) (R.Token p) = rw e at (piece_sized settings memory (drop at s)) in
+          let f : Sized (drop at s) (Some p) = rw e at (piece_sized settings memory (drop at s)) in
           (rw (length-take-le p.len (drop at s) f.inside) f.escaped_inside, tt)
 
   pub few_escaped : escaped_in (tokens settings s) * 2 ≤ length s
@@ -78,10 +79,10 @@ module _ (settings : Settings) (s : List ℕ) where
 
 -- ---- the loop
 
-pub record Tabled (settings : Settings) (s before table : List ℕ) (at escaped level : ℕ) (c : Cursor) : Type 0 where
-  pub wrote : Wrote record_walk settings s (records_of (tokens settings s)) before table at level c
-  pub low : level ≤ c.at
-  pub marked : Counted escaped_walk settings s (all_marks (tokens settings s)) escaped tt c
+pub record Tabled (settings : Settings) (s before table : List ℕ) (at escaped level : ℕ) (it : Tokens) : Type 0 where
+  pub wrote : Wrote record_walk settings s (records_of (tokens settings s)) before table at level it
+  pub low : Low s level it
+  pub marked : Counted escaped_walk settings s (all_marks (tokens settings s)) escaped tt it
 
 pub totals_are : (ts : List Token) (at escaped : ℕ) → at ≡ length (records_of ts) → escaped ≡ length (all_marks ts) → ◌≡◌ {A = Totals} (record { tokens = at / record_bytes; escaped = escaped }) (totals ts)
 totals_are ts at escaped e f = rw (records_count ts at e, f, all_marked ts)

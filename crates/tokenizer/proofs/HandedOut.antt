@@ -1,5 +1,6 @@
 -- What is handed out: never kind 16, and of an accepted statement only words that fit 32 bits, so that a record tells them all.
 -- Assumes nothing.
+use Rattle.std.proofs.Common.{Option, Some, None}
 use Prim.Native.Nat.{ℕ, ◌+◌, ◌^◌, ◌≤◌, ◌<◌}
 use native.Mathlib.Omega.{arith}
 use mathlib.Core.Path.{◌≡◌}
@@ -7,9 +8,8 @@ use mathlib.Core.Bool.{Bool, true, false}
 use mathlib.Core.List.{List}
 use lib.ListN.{length, drop, get_or, length-drop}
 use Rattle.recognisers.specs.declared.Key.{Key}
-use Rattle.recognisers.specs.declared.Key.TheVariants.{None, Named, Escaped, ZeroIndexed, OneIndexed}
+use Rattle.recognisers.specs.declared.Key.TheVariants.{Named, Escaped, ZeroIndexed, OneIndexed}
 use Rattle.recognisers.specs.declared.Piece.{Piece}
-use Rattle.recognisers.specs.declared.Recognised.TheVariants as R
 use Rattle.recognisers.specs.declared.TokenKind.{TokenKind}
 use Rattle.recognisers.specs.Kinds.{kind_number}
 use Rattle.recognisers.proofs.PieceSizes.{KeyFits, Sized}
@@ -55,24 +55,24 @@ pub record Words32 (t : Token) : Type 0 where
   pub a_below : (key_words t.key).a < 2 ^ 32
   pub b_below : (key_words t.key).b < 2 ^ 32
 
-record Key32 (key : Key) : Type 0 where
+record Key32 (key : Option Key) : Type 0 where
   a_below : (key_words key).a < 2 ^ 32
   b_below : (key_words key).b < 2 ^ 32
 
-key_below : (at n : ℕ) (key : Key) → at + n ≤ longest → KeyFits n key → Key32 (placed at key)
+key_below : (at n : ℕ) (key : Option Key) → at + n ≤ longest → KeyFits n key → Key32 (placed at key)
 key_below at n None l h = record { a_below = omega arith; b_below = omega arith }
-key_below at n (Named start len) l h = record { a_below = omega arith; b_below = omega arith }
-key_below at n (Escaped start len) l h = record { a_below = omega arith; b_below = omega arith }
-key_below at n (ZeroIndexed i) l h = record { a_below = omega arith; b_below = omega arith }
-key_below at n (OneIndexed i) l h = record { a_below = omega arith; b_below = omega arith }
+key_below at n (Some (Named start len)) l h = record { a_below = omega arith; b_below = omega arith }
+key_below at n (Some (Escaped start len)) l h = record { a_below = omega arith; b_below = omega arith }
+key_below at n (Some (ZeroIndexed i)) l h = record { a_below = omega arith; b_below = omega arith }
+key_below at n (Some (OneIndexed i)) l h = record { a_below = omega arith; b_below = omega arith }
 
 pub handed_out : (settings : Settings) (s : List ℕ) → length s ≤ longest → Each Words32 (tokens settings s)
 handed_out settings s l = each_token settings s Words32 (λ at. Unit {0}) one tt
   where
-    one : (memory : Memory) (at : ℕ) (p : Piece) → at < length s → Unit {0} → next_piece settings memory (drop at s) ≡ R.Token p
+    one : (memory : Memory) (at : ℕ) (p : Piece) → at < length s → Unit {0} → next_piece settings memory (drop at s) ≡ Some p
         → Words32 (record { kind = given_out settings.joins p.kind; start = at; len = p.len; alias = p.alias; key = placed at p.key; escaped = p.escaped }) × Unit {0}
     one memory at p h u e =
-        let f : Sized (drop at s) (R.Token p) = rw e at (piece_sized settings memory (drop at s)) in
+        let f : Sized (drop at s) (Some p) = rw e at (piece_sized settings memory (drop at s)) in
         let i = f.inside in
         let a = f.alias_inside in
         let n = length-drop at s in

@@ -4,7 +4,7 @@ use Prim.Native.Nat.{ℕ, zero, suc, pred, ◌+◌, ◌-◌, ◌^◌, ◌≤◌,
 use native.Mathlib.Nat.{le_refl}
 use native.Mathlib.Numerals.{add-one}
 use native.Mathlib.Omega.{arith}
-use mathlib.Core.Path.{◌≡◌, refl, sym, ◌∙◌}
+use mathlib.Core.Path.{◌≡◌, refl, ap}
 use mathlib.Core.Bool.{Bool, true, false, cond}
 use mathlib.Core.List.{List, [], ◌∷◌}
 use lib.ListN.{length, take, get_or}
@@ -13,13 +13,15 @@ use Rattle.recognisers.specs.declared.TokenKind.{TokenKind}
 use Rattle.recognisers.specs.declared.TokenKind.TheVariants.{OpenParen, CloseParen}
 use Rattle.recognisers.specs.Kinds.{kind_number, is_kind}
 use Rattle.calls.specs.declared.Settings.{Settings}
-use Rattle.tokenizer.specs.declared.Cursor.{Cursor}
-use Rattle.tokenizer.specs.declared.Step.{Step}
-use Rattle.tokenizer.specs.declared.Step.TheVariants as S
+use Rattle.std.specs.Prelude.{Option, Some}
+use Rattle.std.specs.Iterator.{YieldsFirst}
+use Rattle.tokenizer.specs.declared.walking.Tokens.{Tokens}
 use Rattle.tokenizer.specs.declared.Token.{Token}
 use Rattle.tokenizer.specs.Levels.{level_past, levels_from, levels}
-use Rattle.tokenizer.specs.Tokens.{step_at}
-use Rattle.tokenizer.proofs.Steps.{step_moves}
+use Rattle.tokenizer.specs.Left.{tokens_left}
+use Rattle.tokenizer.specs.Tokens.{tokens}
+use Rattle.tokenizer.proofs.EndToEnd.{tokens_short}
+use Rattle.tokenizer.proofs.Walks.{taken}
 
 -- ---- one step
 
@@ -63,17 +65,23 @@ level_low level kind = go (is_kind kind OpenParen) (is_kind kind CloseParen)
     go false true = pred_low level
     go false false = omega arith
 
--- ---- at a cursor: no higher than the bytes that are passed
+-- ---- in a loop over the tokens: with what is left, no more than the bytes
 
-module _ (settings : Settings) (s : List ℕ) (level : ℕ) (c : Cursor) (low : level ≤ c.at) (r : Step) (t : Token) (c' : Cursor) (e : r ≡ step_at settings s c) (f : r ≡ S.Token t c') where
+pub record Low (s : List ℕ) (level : ℕ) (it : Tokens) : Type 0 where
+  pub low : level + length (tokens_left it) ≤ length s
+
+module _ (s : List ℕ) (level : ℕ) (it it' : Tokens) (r : Option Token) (at : Low s level it) (e : YieldsFirst tokens_left it r it') (t : Token) (f : r ≡ Some t) where
+  one_less : level + suc (length (tokens_left it')) ≤ length s
+  one_less = omega (arith, at.low, ap length (taken it it' r e t f))
+
   pub level_fits : length s < 2 ^ 64 → level + 1 < 2 ^ 64
-  level_fits h = let m = step_moves settings s c t c' (sym e ∙ f) in omega (arith, m.on, m.inside, low)
+  level_fits h = omega (arith, one_less)
 
-  pub level_low_past : (past : ℕ) → past ≡ level_past level t.kind → past ≤ c'.at
-  level_low_past past g = let m = step_moves settings s c t c' (sym e ∙ f) in rw g (omega (arith, m.on, low, level_low level t.kind))
+  pub level_low_past : (past : ℕ) → past ≡ level_past level t.kind → Low s past it'
+  level_low_past past g = rw g (record { low = omega (arith, one_less, level_low level t.kind) })
 
-pub level_low_start : (c : Cursor) → 0 ≤ c.at
-level_low_start c = zero-le
+pub level_low_start : (settings : Settings) (s : List ℕ) (it : Tokens) → tokens_left it ≡ tokens settings s → Low s 0 it
+level_low_start settings s it e = record { low = rw e (omega (arith, tokens_short settings s)) }
 
 -- ---- over a list of tokens
 

@@ -2,6 +2,7 @@
 -- quote. The identifier form is tried before the string form, whose own key begins with the quote (`national_key`,
 -- recognisers/proofs/NationalKey.antt).
 -- Assumes nothing.
+use Rattle.std.proofs.Common.{None, Some}
 use Prim.Native.Nat.{ℕ}
 use mathlib.Core.Path.{◌≡◌, refl}
 use mathlib.Core.Bool.{Bool, true, false}
@@ -15,7 +16,7 @@ use Rattle.characters.specs.Classes.{is_whitespace, is_alphabetic, is_numeric, i
 use Rattle.characters.specs.Runs.{run}
 use Rattle.recognisers.specs.declared.Dialect.{Dialect}
 use Rattle.recognisers.specs.declared.Dialect.TheVariants.{Generic, PostgreSql, SQLServer}
-use Rattle.recognisers.specs.declared.Key.TheVariants.{None, Named}
+use Rattle.recognisers.specs.declared.Key.TheVariants.{Named}
 use Rattle.recognisers.specs.declared.TokenKind.TheVariants as K
 use Rattle.recognisers.specs.Text.{bytes}
 use Rattle.recognisers.specs.Same.{same}
@@ -34,7 +35,7 @@ use Rattle.tokenizer.specs.NextToken.{from_placeholder, from_operator, from_rese
 use Rattle.tokenizer.specs.Tokens.{given_out, tokens_from, tokens}
 
 abbrev placeholder : Token
-placeholder = record { kind = K.Placeholder; start = 0; len = 2; alias = 2; key = Named 1 1; escaped = 0 }
+placeholder = record { kind = K.Placeholder; start = 0; len = 2; alias = 2; key = Some (Named 1 1); escaped = 0 }
 
 abbrev string : ℕ → Token
 string len = record { kind = K.String; start = 2; len = len; alias = len; key = None; escaped = 0 }

@@ -1,6 +1,7 @@
 -- The twelve worked searches that are marked P, proved of the definitions together: each with its settings, and its tokens
 -- but for whitespace, as kind, length and key.
 -- Assumes nothing.
+use Rattle.std.proofs.Common.{Option, None, Some}
 use Prim.Native.Nat.{ℕ}
 use mathlib.Core.Path.{◌≡◌, refl}
 use mathlib.Core.Bool.{Bool, true, false, cond}
@@ -8,7 +9,7 @@ use mathlib.Core.List.{List, [], ◌∷◌, map}
 use Rattle.recognisers.specs.declared.Dialect.{Dialect}
 use Rattle.recognisers.specs.declared.Dialect.TheVariants.{Generic, SQLServer}
 use Rattle.recognisers.specs.declared.Key.{Key}
-use Rattle.recognisers.specs.declared.Key.TheVariants.{None, Named, ZeroIndexed, OneIndexed}
+use Rattle.recognisers.specs.declared.Key.TheVariants.{Named, ZeroIndexed, OneIndexed}
 use Rattle.recognisers.specs.declared.TokenKind.{TokenKind}
 use Rattle.recognisers.specs.declared.TokenKind.TheVariants as K
 use Rattle.recognisers.specs.Kinds.{is_kind}
@@ -46,7 +47,7 @@ use Rattle.tokenizer.specs.NextToken.{from_word, from_placeholder, from_operator
 use Rattle.tokenizer.specs.Tokens.{given_out, step_at, tokens_from, tokens}
 
 abbrev pub Shown : Type 0
-Shown = List (TokenKind × ℕ × Key)
+Shown = List (TokenKind × ℕ × Option Key)
 
 -- the tokens without whitespace
 pub shown : List Token → Shown
@@ -59,7 +60,7 @@ settings dialect named = record { dialect = dialect; joins = false; named = name
 generic : Settings
 generic = settings Generic false
 
-plain : TokenKind → ℕ → TokenKind × ℕ × Key
+plain : TokenKind → ℕ → TokenKind × ℕ × Option Key
 plain kind len = (kind, len, None)
 
 pub searches : List (Settings × List ℕ × Shown)
@@ -73,10 +74,10 @@ searches =
     ∷ (generic, bytes "(::", plain K.OpenParen 1 ∷ plain K.Operator 2 ∷ [])
     ∷ (generic, bytes "::", plain K.TypeSpecifier 2 ∷ [])
     ∷ (generic, bytes "a=?", plain K.Word 1 ∷ plain K.Operator 2 ∷ [])
-    ∷ (generic, bytes "$1a", (K.Placeholder, 2, OneIndexed 1) ∷ plain K.Word 1 ∷ [])
-    ∷ (settings Generic true, bytes "$1a", (K.Placeholder, 3, Named 1 2) ∷ [])
+    ∷ (generic, bytes "$1a", (K.Placeholder, 2, Some (OneIndexed 1)) ∷ plain K.Word 1 ∷ [])
+    ∷ (settings Generic true, bytes "$1a", (K.Placeholder, 3, Some (Named 1 2)) ∷ [])
     ∷ (generic, bytes "?18446744073709551616", plain K.Placeholder 21 ∷ [])
-    ∷ (generic, bytes "?18446744073709551615", (K.Placeholder, 21, ZeroIndexed 18446744073709551615) ∷ [])
+    ∷ (generic, bytes "?18446744073709551615", (K.Placeholder, 21, Some (ZeroIndexed 18446744073709551615)) ∷ [])
     ∷ (generic, bytes "BETWEEN 1 AND 2", plain K.Reserved 7 ∷ plain K.Number 1 ∷ plain K.Reserved 3 ∷ plain K.Number 1 ∷ [])
     ∷ (generic, bytes "between 1 AND 2", plain K.Reserved 7 ∷ plain K.Number 1 ∷ plain K.ReservedNewline 3 ∷ plain K.Number 1 ∷ [])
     ∷ (settings SQLServer false, bytes "=[]", plain K.Operator 1 ∷ plain K.String 2 ∷ [])

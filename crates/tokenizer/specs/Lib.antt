@@ -2,6 +2,7 @@
 pub mod Memory
 pub mod NextToken
 pub mod Tokens
+pub mod Left
 pub mod EscapedQuotes
 pub mod Levels
 pub mod Records

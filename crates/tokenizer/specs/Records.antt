@@ -1,7 +1,7 @@
 -- Token records: eight 32-bit words, the lowest byte first. The last is the token's level.
-use Rattle.std.specs.Prelude.{ℕ, ◌*◌, ◌/◌, ◌%◌, List, [], ◌∷◌, ◌++◌, length, drop}
+use Rattle.std.specs.Prelude.{ℕ, ◌*◌, ◌/◌, ◌%◌, List, [], ◌∷◌, ◌++◌, length, drop, Option, Some, None}
 use Rattle.recognisers.specs.declared.Key.{Key}
-use Rattle.recognisers.specs.declared.Key.TheVariants.{None, Named, Escaped, ZeroIndexed, OneIndexed}
+use Rattle.recognisers.specs.declared.Key.TheVariants.{Named, Escaped, ZeroIndexed, OneIndexed}
 use Rattle.recognisers.specs.Kinds.{kind_number}
 use Rattle.calls.specs.LittleEndian.{le32}
 use Rattle.tokenizer.specs.declared.KeyWords.{KeyWords}
@@ -13,12 +13,12 @@ abbrev pub record_bytes : ℕ
 record_bytes = 32
 
 -- key kind, key a and key b; a number's high and low half
-abbrev pub key_words : Key → KeyWords
+abbrev pub key_words : Option Key → KeyWords
 key_words None = record { kind = 0; a = 0; b = 0 }
-key_words (Named start len) = record { kind = 1; a = start; b = len }
-key_words (Escaped start len) = record { kind = 2; a = start; b = len }
-key_words (ZeroIndexed n) = record { kind = 3; a = n / 4294967296; b = n % 4294967296 }
-key_words (OneIndexed n) = record { kind = 4; a = n / 4294967296; b = n % 4294967296 }
+key_words (Some (Named start len)) = record { kind = 1; a = start; b = len }
+key_words (Some (Escaped start len)) = record { kind = 2; a = start; b = len }
+key_words (Some (ZeroIndexed n)) = record { kind = 3; a = n / 4294967296; b = n % 4294967296 }
+key_words (Some (OneIndexed n)) = record { kind = 4; a = n / 4294967296; b = n % 4294967296 }
 
 -- kind, start, length and alias length
 unfoldable pub place_bytes : ℕ → ℕ → ℕ → ℕ → List ℕ

@@ -2,20 +2,17 @@
 ghost use Rattle.std.specs.Prelude.{◌≡◌, ◌+◌, ◌^◌, ◌<◌};
 ghost use Rattle.tokenizer.specs.Levels.{level_past};
 
-use recognisers::{TokenKind, is_kind};
+use recognisers::TokenKind;
 
 // The level past a token of this kind.
+#[tactic(auto, unfolding(crate::specs::Levels::level_past))]
 pub fn level_past(level: usize, kind: TokenKind) -> usize
     requires { level + 1 < 2 ^ 64 }
     ensures { result ≡ level_past level kind }
 {
-    if is_kind(kind, TokenKind::OpenParen) {
-        return level + 1;
+    match kind {
+        TokenKind::OpenParen => level + 1,
+        TokenKind::CloseParen => level.saturating_sub(1),
+        _ => level,
     }
-    if is_kind(kind, TokenKind::CloseParen) {
-        if level > 0 {
-            return level - 1;
-        }
-    }
-    level
 }

@@ -1,7 +1,6 @@
 // src/tokenizer.rs: the tokens of a statement, one step at a time and as a table of records.
 #![tactic(auto)]
 
-use calls::Refusal;
 use recognisers::{Key, TokenKind};
 use reserved::TopLevel;
 
@@ -12,12 +11,13 @@ mod remembering;
 mod stepping;
 mod table;
 mod tokenizing;
+mod walking;
 
 pub use levels::level_past;
 pub use records::key_words;
-pub use stepping::{at_start, next_step};
 pub use table::count_tokens;
 pub use tokenizing::tokenize;
+pub use walking::Tokens;
 
 // What is asked of earlier tokens: may a type specifier stand here, is the last non-whitespace token's value `.`, is the last
 // Reserved token's value BETWEEN, and the last top-level token's alias.
@@ -36,7 +36,7 @@ pub struct Token {
     pub len: usize,
     pub kind: TokenKind,
     pub start: usize,
-    pub key: Key,
+    pub key: Option<Key>,
     pub alias: usize,
     pub escaped: usize,
 }
@@ -46,19 +46,6 @@ pub struct Token {
 pub struct Cursor {
     pub at: usize,
     pub memory: Memory,
-}
-
-#[derive(Clone, Copy)]
-pub enum Step {
-    Token(Token, Cursor),
-    Done,
-}
-
-// What `tokenize` answers: how many records it wrote, and how many quotes are escaped in the tokens.
-#[derive(Clone, Copy)]
-pub enum TableAnswer {
-    Written { tokens: u64, escaped: u64 },
-    Refused(Refusal),
 }
 
 // How many tokens were written, and how many quotes are escaped in them.

@@ -7,9 +7,9 @@ ghost use Rattle.tokenizer.specs.Tokens.{given_out, placed, step_at};
 
 use crate::choice::next_piece;
 use crate::remembering::remember_piece;
-use crate::{Cursor, Memory, Step, Token};
+use crate::{Cursor, Memory, Token};
 use calls::Settings;
-use recognisers::{Dialect, Key, Recognised, TokenKind, is_kind, learn_opener};
+use recognisers::{Dialect, Hints, Key, TokenKind, learn_opener};
 use reserved::TopLevel;
 
 // Before the first token.
@@ -29,10 +29,11 @@ pub fn at_start() -> Cursor
 
 // A Join is given out as top level or as a newline word.
 #[inline(always)]
+#[tactic(auto, unfolding(crate::specs::Tokens::given_out))]
 fn given_out(joins: bool, kind: TokenKind) -> TokenKind
     ensures { result ≡ given_out joins kind }
 {
-    if is_kind(kind, TokenKind::Join) {
+    if kind == TokenKind::Join {
         if joins {
             return TokenKind::ReservedTopLevel;
         }
@@ -43,52 +44,55 @@ fn given_out(joins: bool, kind: TokenKind) -> TokenKind
 
 // A key's places, counted from the statement's start.
 #[inline(always)]
-fn place_key(at: usize, key: Key) -> Key
+fn place_key(at: usize, key: Option<Key>) -> Option<Key>
     requires { at + key_start key < 2 ^ 64 }
     ensures { result ≡ placed at key }
 {
-    match key {
-        Key::None => Key::None,
+    Some(match key? {
         Key::Named { start, len } => Key::Named {
             start: at + start,
-            len: len,
+            len,
         },
         Key::Escaped { start, len } => Key::Escaped {
             start: at + start,
-            len: len,
+            len,
         },
-        Key::ZeroIndexed(n) => Key::ZeroIndexed(n),
-        Key::OneIndexed(n) => Key::OneIndexed(n),
-    }
+        index => index,
+    })
 }
 
 // An opener that opens nothing is an Operator.
 #[inline(always)]
-fn learn(statement: &[u8], at: usize, kind: TokenKind, dialect: Dialect, hints: &mut [usize])
+fn learn(statement: &[u8], at: usize, kind: TokenKind, dialect: Dialect, hints: &mut Hints)
     requires at_in_bounds { at < length statement.now }
     requires truthful { Truthful hints.old statement.now }
     ensures { Truthful hints.new statement.now }
 {
-    if is_kind(kind, TokenKind::Operator) {
+    if kind == TokenKind::Operator {
         learn_opener(statement, at, dialect, hints);
     }
 }
 
 // What is known of the statement's end goes along, and grows where an opener opened nothing.
 #[inline(always)]
-pub fn next_step(statement: &[u8], settings: Settings, cursor: Cursor, hints: &mut [usize]) -> Step
+pub fn next_step(
+    statement: &[u8],
+    settings: Settings,
+    cursor: Cursor,
+    hints: &mut Hints,
+) -> Option<(Token, Cursor)>
     requires { Truthful hints.old statement.now }
     ensures value { result ≡ step_at settings statement.now cursor }
     ensures truthful { Truthful hints.new statement.now }
 {
     let at = cursor.at;
     if statement.len() <= at {
-        return Step::Done;
+        return None;
     }
     let rest = &statement[at..];
     let memory = cursor.memory;
-    let Recognised::Token(piece) = next_piece(rest, settings, memory, hints) else {
-        return Step::Done;
+    let Some(piece) = next_piece(rest, settings, memory, hints) else {
+        return None;
     };
     let kind = piece.kind;
     let len = piece.len;
@@ -105,11 +109,11 @@ pub fn next_step(statement: &[u8], settings: Settings, cursor: Cursor, hints: &m
     let dialect = settings.dialect;
     learn(statement, at, kind, dialect, hints);
     let next = remember_piece(memory, kind, &rest[..len], alias);
-    Step::Token(
+    Some((
         token,
         Cursor {
             at: at + len,
             memory: next,
         },
-    )
+    ))
 }

@@ -2,22 +2,21 @@
 ghost use Rattle.std.specs.Prelude.{◌≡◌, length};
 ghost use Rattle.tokenizer.specs.Answers.{tokenize_answer, tokenize_records};
 
-use crate::TableAnswer;
+use crate::Totals;
 use crate::table::write_table;
-use calls::{Checked, check};
+use calls::{Refusal, check};
 
+#[tactic(auto, unfolding(crate::specs::Answers::tokenize_answer, crate::specs::Answers::tokenize_records))]
 pub fn tokenize(
     statement: &[u8],
     dialect: u64,
     joins: u64,
     named: u64,
     records: &mut [u8],
-) -> TableAnswer
+) -> Result<Totals, Refusal>
     ensures value { result ≡ tokenize_answer statement.now dialect joins named (length records.old) }
     ensures records_after { records.new ≡ tokenize_records statement.now dialect joins named records.old }
 {
-    match check(statement, dialect, joins, named) {
-        Checked::Accepted(settings) => write_table(statement, settings, records),
-        Checked::Refused(refusal) => TableAnswer::Refused(refusal),
-    }
+    let settings = check(statement, dialect, joins, named)?;
+    write_table(statement, settings, records)
 }
