@@ -1,9 +1,9 @@
 -- The walk over the tokens that counts the parts and writes their places. The state is the start of the present part.
 -- Assumes nothing.
-use Prim.Native.Nat.{ℕ, ◌+◌, ◌-◌, ◌*◌, ◌/◌, ◌^◌, ◌≤◌, ◌<◌}
-use native.Mathlib.Nat.{suc-mul, mul-one}
+use Prim.Native.Nat.{ℕ, suc, ◌+◌, ◌-◌, ◌*◌, ◌/◌, ◌≤◌}
+use native.Mathlib.Nat.{suc-mul, le_trans}
 use native.Mathlib.Omega.{arith}
-use mathlib.Core.Path.{◌≡◌, refl, sym, ap, ◌∙◌}
+use mathlib.Core.Path.{◌≡◌, refl, sym, ap, ◌∙◌, subst}
 use mathlib.Core.Bool.{Bool, true, false, cond}
 use mathlib.Core.List.{List, [], ◌∷◌, ◌++◌, append_assoc, append-nil}
 use borrow.Author.Tests.{eq-eqb, ne_eqb, lt-ltb, le-ltb}
@@ -13,19 +13,21 @@ use lib.Seq.{sets}
 use Rattle.calls.proofs.Storing.{both_put}
 use Rattle.calls.specs.LittleEndian.{low_bytes, le32}
 use Rattle.calls.specs.declared.Settings.{Settings}
-use Rattle.tokenizer.specs.declared.Cursor.{Cursor}
-use Rattle.tokenizer.specs.declared.Step.{Step}
-use Rattle.tokenizer.specs.declared.Step.TheVariants as S
+use Rattle.std.specs.Prelude.{Option, Some, None}
+use Rattle.std.specs.Iterator.{YieldsFirst}
+use Rattle.std.specs.List.{filter}
+use Rattle.std.proofs.lemmas.List.Sums.{length-filter, count_by-le-length}
 use Rattle.tokenizer.specs.declared.Token.{Token}
-use Rattle.tokenizer.specs.Memory.{start}
-use Rattle.tokenizer.specs.Tokens.{step_at, tokens}
-use Rattle.tokenizer.proofs.Steps.{step_moves}
-use Rattle.tokenizer.proofs.Walks.{Walk, Counted, count_end, Wrote, write_start, write_room, write_to, write_count, write_end, text_by_bytes}
+use Rattle.tokenizer.specs.declared.walking.Tokens.{Tokens}
+use Rattle.tokenizer.specs.Left.{tokens_left}
+use Rattle.tokenizer.specs.Tokens.{tokens}
+use Rattle.tokenizer.proofs.EndToEnd.{tokens_short}
+use Rattle.tokenizer.proofs.Walks.{Walk, taken, Wrote, write_start, write_room, write_to, write_count, write_end}
 use Rattle.script.specs.Settings.{cutter_settings}
 use Rattle.script.specs.Cuts.{is_cut}
 use Rattle.script.specs.Parts.{Part, between, parts_from, parts}
 use Rattle.script.specs.Places.{place_bytes, place_of, places_of}
-use Rattle.script.specs.Inner.Ended.{ends_part, ended_at, ended_count, start_past}
+use Rattle.script.specs.Inner.Ended.{ends_part, ended_at, start_past}
 use Rattle.script.proofs.Tiles.{Tiled, tiled}
 
 -- ---- the parts, each with the token that ends it
@@ -62,71 +64,28 @@ module _ (s : List ℕ) where
   parts_ended [] h = rw (le-ltb 0 (length s) (omega (arith, h)))
   parts_ended (t ∷ ts) h = ended 0 0 t ts h (omega arith)
 
-  parts_are : (settings : Settings) → settings ≡ cutter_settings → parts s ≡ ended_from s 0 (tokens settings s)
+  parts_are : parts s ≡ ended_from s 0 (tokens cutter_settings s)
   unfolding parts
-  parts_are settings e = rw e (parts_ended (tokens cutter_settings s) (tiled cutter_settings s))
+  parts_are = parts_ended (tokens cutter_settings s) (tiled cutter_settings s)
 
   -- ---- counted
 
-  abbrev pub ending_at : Token → List Token
-  ending_at t = cond (ends_part s t) (t ∷ []) []
-
-  unfoldable pub endings : List Token → List Token
-  endings [] = []
-  endings (t ∷ ts) = ending_at t ++ endings ts
-
-  pub none_ending : endings [] ≡ []
-  unfolding endings
-  none_ending = refl
-
-  pub more_ending : (t : Token) (ts : List Token) → endings (t ∷ ts) ≡ ending_at t ++ endings ts
-  unfolding endings
-  more_ending t ts = refl
-
-  abbrev pub ending_walk : Walk (Unit {0}) Token
-  ending_walk = record { adds = λ x t. ending_at t; past = λ x t. x; text = λ x ts. endings ts; none = λ x. none_ending; more = λ x t ts. more_ending t ts }
-
-  pub one_counted : (t : Token) (k : ℕ) → k ≡ ended_count s t → k ≡ length (ending_at t)
-  unfolding ended_count
-  one_counted t k e = e ∙ go (ends_part s t)
+  ended_count : (from : ℕ) (ts : List Token) → length (filter (ends_part s) ts) ≡ length (ended_from s from ts)
+  unfolding ended_from ended_at
+  ended_count from [] = refl
+  ended_count from (t ∷ ts) = go (ends_part s t) refl (ended_count (start_past s from t) ts)
     where
-      go : (b : Bool) → cond b 1 0 ≡ length (cond b (t ∷ []) [])
-      go true = refl
-      go false = refl
+      go : (b : Bool) → ends_part s t ≡ b → length (filter (ends_part s) ts) ≡ length (ended_from s (start_past s from t) ts)
+          → length (filter (ends_part s) (t ∷ ts)) ≡ length (ended_from s from (t ∷ ts))
+      go true e ih = rw e (ap suc ih)
+      go false e ih = rw e ih
 
-  ended_count_lem : (from : ℕ) (ts : List Token) → length (endings ts) ≡ length (ended_from s from ts)
-  unfolding endings ended_from ended_at
-  ended_count_lem from [] = refl
-  ended_count_lem from (t ∷ ts) = rw (length-append, length-append, ended_count_lem (start_past s from t) ts) (ap (λ (n : ℕ). n + length (ended_from s (start_past s from t) ts)) (one (ends_part s t) refl))
-    where
-      one : (b : Bool) → ends_part s t ≡ b → length (ending_at t) ≡ length (ended_at s from t)
-      one true e = rw e
-      one false e = rw e
-
-  module _ (settings : Settings) (e : settings ≡ cutter_settings) where
-    counted : length (endings (tokens settings s)) ≡ length (parts s)
-    counted = rw (parts_are settings e) (ended_count_lem 0 (tokens settings s))
-
-  ending_short : (settings : Settings) → length (endings (tokens settings s)) ≤ length s
-  ending_short settings = omega (arith, mul-one (length s), text_by_bytes ending_walk settings s 1 each tt)
-    where
-      each : (x : Unit {0}) (t : Token) → 1 ≤ t.len → t.start + t.len ≤ length s → length (ending_at t) ≤ t.len * 1
-      each x t h i = go (ends_part s t)
-        where
-          go : (b : Bool) → length (cond b (t ∷ []) []) ≤ t.len * 1
-          go true = omega arith
-          go false = omega arith
+  pub parts_counted : (settings : Settings) → settings ≡ cutter_settings → length (filter (ends_part s) (tokens settings s)) ≡ length (parts s)
+  parts_counted settings e = rw (parts_are, e) (ended_count 0 (tokens cutter_settings s))
 
   -- no more parts than bytes
   pub parts_short : length (parts s) ≤ length s
-  parts_short = rw (← counted cutter_settings refl) (ending_short cutter_settings)
-
-  module _ (settings : Settings) (n : ℕ) (c : Cursor) (r : Step) (at : Counted ending_walk settings s (endings (tokens settings s)) n tt c) (e : r ≡ step_at settings s c) where
-    pub parts_counted : r ≡ S.Done → settings ≡ cutter_settings → n ≡ length (parts s)
-    parts_counted f g = count_end ending_walk settings s (endings (tokens settings s)) n tt c r at e f ∙ counted settings g
-
-  pub endings_fit : (settings : Settings) → length s < 2 ^ 64 → length (endings (tokens settings s)) < 2 ^ 64
-  endings_fit settings h = let k = ending_short settings in omega arith
+  parts_short = rw (← parts_counted cutter_settings refl) (rw length-filter (le_trans (count_by-le-length (ends_part s) (tokens cutter_settings s)) (tokens_short cutter_settings s)))
 
 -- ---- places
 
@@ -161,10 +120,6 @@ module _ (s : List ℕ) (t : Token) where
 
   module _ (b : Bool) (e : b ≡ ends_part s t) where
     module _ (f : b ≡ true) where
-      pub one_ended : 1 ≡ ended_count s t
-      unfolding ended_count
-      one_ended = rw (← e, f)
-
       pub start_moved : (from : ℕ) → t.start + t.len ≡ start_past s from t
       unfolding start_past
       start_moved from = rw (← e, f)
@@ -184,10 +139,6 @@ module _ (s : List ℕ) (t : Token) where
         ended_put places after at g = rw ended_is g
 
     module _ (f : b ≡ false) where
-      pub none_ended : 0 ≡ ended_count s t
-      unfolding ended_count
-      none_ended = rw (← e, f)
-
       pub start_kept : (from : ℕ) → from ≡ start_past s from t
       unfolding start_past
       start_kept from = rw (← e, f)
@@ -217,45 +168,55 @@ module _ (s : List ℕ) where
   abbrev place_walk : Walk ℕ ℕ
   place_walk = record { adds = λ x t. places_of (ended_at s x t); past = start_past s; text = λ x ts. places_of (ended_from s x ts); none = none_placed; more = more_placed }
 
-  module _ (settings : Settings) where
-    abbrev all : List ℕ
-    all = places_of (ended_from s 0 (tokens settings s))
+  abbrev all : List ℕ
+  all = places_of (ended_from s 0 (tokens cutter_settings s))
 
-    all_is : settings ≡ cutter_settings → all ≡ places_of (parts s)
-    all_is e = ap places_of (sym (parts_are s settings e))
+  all_is : all ≡ places_of (parts s)
+  all_is = ap places_of (sym (parts_are s))
 
-    module _ (before : List ℕ) where
-      -- the places are written up to a place, and the present part starts no later than the cursor
-      pub record Cutting (places : List ℕ) (at from : ℕ) (c : Cursor) : Type 0 where
-        wrote : Wrote place_walk settings s all before places at from c
-        low : from ≤ c.at
+  module _ (before : List ℕ) where
+    -- the places are written up to a place, and the present part starts no later than the next token
+    pub record Cutting (places : List ℕ) (at from : ℕ) (it : Tokens) : Type 0 where
+      wrote : Wrote place_walk cutter_settings s all before places at from it
+      next : ℕ
+      tiles : Tiled (length s) next (tokens_left it)
+      low : from ≤ next
 
-      pub cut_start : (c : Cursor) → settings ≡ cutter_settings → c ≡ record { at = 0; memory = start } → length (places_of (parts s)) ≤ length before → Cutting before 0 0 c
-      cut_start c e f h = record { wrote = write_start place_walk settings s all before 0 c refl f (rw (all_is e) h); low = omega arith }
+    pub cut_start : (settings : Settings) (it made : Tokens) → settings ≡ cutter_settings → it ≡ made → tokens_left made ≡ tokens settings s → length (places_of (parts s)) ≤ length before → Cutting before 0 0 it
+    cut_start settings it made e f g h =
+        let begun : tokens_left it ≡ tokens cutter_settings s = ap tokens_left f ∙ g ∙ ap (λ (chosen : Settings). tokens chosen s) e in
+        record { wrote = write_start place_walk cutter_settings s all before 0 it refl begun (rw all_is h); next = 0; tiles = rw begun (tiled cutter_settings s); low = omega arith }
 
-      module _ (places : List ℕ) (at from : ℕ) (c : Cursor) (r : Step) (now : Cutting places at from c) (e : r ≡ step_at settings s c) where
-        module _ (t : Token) (c' : Cursor) (f : r ≡ S.Token t c') where
-          pub cut_order : from ≤ t.start + t.len
-          cut_order = let m = step_moves settings s c t c' (sym e ∙ f) in omega (arith, now.low, m.from)
+    module _ (places : List ℕ) (at from : ℕ) (it it' : Tokens) (r : Option Token) (now : Cutting places at from it) (e : YieldsFirst tokens_left it r it') where
+      module _ (t : Token) (f : r ≡ Some t) where
+        tile : Tiled (length s) now.next (t ∷ tokens_left it')
+        tile = subst (Tiled (length s) now.next) (taken it it' r e t f) now.tiles
 
-          pub cut_room : at + length (places_of (ended_at s from t)) ≤ length places
-          cut_room = write_room place_walk settings s all before places at from c r now.wrote e t c' f (length (places_of (ended_at s from t))) refl
+        pub cut_order : from ≤ t.start + t.len
+        cut_order = omega (arith, now.low, tile.0.from)
 
-          pub cut_more : (after : List ℕ) (m y : ℕ) → m ≡ at + length (places_of (ended_at s from t)) → after ≡ sets places at (places_of (ended_at s from t)) → y ≡ start_past s from t → Cutting after m y c'
-          unfolding start_past
-          cut_more after m y g h i =
-              let moves = step_moves settings s c t c' (sym e ∙ f) in
-              record {
-                wrote = write_to place_walk settings s all before places at from c r now.wrote e t c' f (length (places_of (ended_at s from t))) refl y after i h m g;
-                low = rw i (go (ends_part s t) (omega (arith, moves.from, moves.past)) (omega (arith, now.low, moves.on)));
-              }
-            where
-              go : (b : Bool) → t.start + t.len ≤ c'.at → from ≤ c'.at → cond b (t.start + t.len) from ≤ c'.at
-              go true k l = k
-              go false k l = l
+        pub cut_inside : t.start + t.len ≤ length s
+        cut_inside = omega (arith, tile.0.from, tile.0.inside)
 
-        pub cut_end : r ≡ S.Done → settings ≡ cutter_settings → places ≡ places_of (parts s) ++ drop (length (places_of (parts s))) before
-        cut_end f g = rw (← all_is g) (write_end place_walk settings s all before places at from c r now.wrote e f)
+        pub cut_room : at + length (places_of (ended_at s from t)) ≤ length places
+        cut_room = write_room place_walk cutter_settings s all before places at from it it' r now.wrote e t f (length (places_of (ended_at s from t))) refl
 
-        pub cut_count : r ≡ S.Done → settings ≡ cutter_settings → at / place_bytes ≡ length (parts s)
-        cut_count f g = omega (arith, write_count place_walk settings s all before places at from c r now.wrote e f, ap length (all_is g), places_length (parts s))
+        pub cut_more : (after : List ℕ) (m y : ℕ) → m ≡ at + length (places_of (ended_at s from t)) → after ≡ sets places at (places_of (ended_at s from t)) → y ≡ start_past s from t → Cutting after m y it'
+        unfolding start_past
+        cut_more after m y g h i =
+            record {
+              wrote = write_to place_walk cutter_settings s all before places at from it it' r now.wrote e t f (length (places_of (ended_at s from t))) refl y after i h m g;
+              next = now.next + t.len;
+              tiles = tile.1;
+              low = rw i (go (ends_part s t));
+            }
+          where
+            go : (b : Bool) → cond b (t.start + t.len) from ≤ now.next + t.len
+            go true = omega (arith, tile.0.from)
+            go false = omega (arith, now.low)
+
+      pub cut_end : r ≡ None → places ≡ places_of (parts s) ++ drop (length (places_of (parts s))) before
+      cut_end f = rw (← all_is) (write_end place_walk cutter_settings s all before places at from it it' r now.wrote e f)
+
+      pub cut_count : r ≡ None → at / place_bytes ≡ length (parts s)
+      cut_count f = omega (arith, write_count place_walk cutter_settings s all before places at from it it' r now.wrote e f, ap length all_is, places_length (parts s))

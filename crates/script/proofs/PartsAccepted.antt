@@ -1,6 +1,7 @@
 -- Every part of an accepted script is accepted by the calls, whatever the settings: a part is no longer than the script, and a cut
 -- is where a character starts.
 -- Assumes nothing.
+use Rattle.std.specs.Prelude.{Ok}
 use Prim.Native.Nat.{ℕ, ◌+◌, ◌-◌, ◌≤◌}
 use native.Mathlib.Omega.{arith}
 use mathlib.Core.Path.{◌≡◌, refl, sym, ap, ◌∙◌}
@@ -12,7 +13,6 @@ use lib.Seq.{drop-drop, length-take-le}
 use Rattle.characters.specs.Utf8.{well_formed}
 use Rattle.characters.proofs.ReplacedEnds.{replaced}
 use Rattle.characters.proofs.WellFormedCuts.{end_formed}
-use Rattle.calls.specs.declared.Checked.TheVariants.{Accepted}
 use Rattle.calls.specs.declared.Settings.{Settings}
 use Rattle.calls.specs.Checks.{checked}
 use Rattle.calls.specs.Settings.{is_setting, settings_of}
@@ -64,9 +64,9 @@ module _ (s : List ℕ) where
       let k : well_formed (part_text s p ++ []) ≡ true = replaced (part_text s p) (drop (p.start + p.len) s) [] (rw joined h.0) h.1 end_formed in
       rw append-nil at k
 
-  module _ (settings : Settings) (e : checked 0 0 0 s ≡ Accepted settings) (dialect joins named : ℕ) (good : is_setting dialect joins named ≡ true) where
+  module _ (settings : Settings) (e : checked 0 0 0 s ≡ Ok settings) (dialect joins named : ℕ) (good : is_setting dialect joins named ≡ true) where
     abbrev pub IsAccepted : Part → Type 0
-    IsAccepted p = checked dialect joins named (part_text s p) ≡ Accepted (settings_of dialect joins named)
+    IsAccepted p = checked dialect joins named (part_text s p) ≡ Ok (settings_of dialect joins named)
 
     part_accepted : (p : Part) → Inside (length s) p → Whole p → IsAccepted p
     part_accepted p i w =

@@ -1,14 +1,13 @@
 -- The tokens of a statement lie end to end: each has a byte and starts where the one before it ends, and the last one ends where
 -- the statement does.
 -- Assumes nothing.
+use Rattle.std.proofs.Common.{Option, Some, None}
 use Prim.Native.Nat.{ℕ, zero, suc, ◌+◌, ◌-◌, ◌≤◌}
 use native.Mathlib.Omega.{arith}
 use mathlib.Core.Path.{◌≡◌, refl, sym, ap, ◌∙◌}
 use mathlib.Core.List.{List, [], ◌∷◌}
 use lib.ListN.{length, take, drop, length-drop, drop_of_length-le}
 use Rattle.recognisers.specs.declared.Piece.{Piece}
-use Rattle.recognisers.specs.declared.Recognised.{Recognised}
-use Rattle.recognisers.specs.declared.Recognised.TheVariants as R
 use Rattle.calls.specs.declared.Settings.{Settings}
 use Rattle.tokenizer.specs.declared.Cursor.{Cursor}
 use Rattle.tokenizer.specs.declared.Token.{Token}
@@ -50,12 +49,12 @@ module _ (settings : Settings) (s : List ℕ) where
       go [] e ih = ends c (let n : length s - c.at ≡ 0 = sym (length-drop c.at s) ∙ ap length e in omega arith) k
       go (b ∷ rest) e ih = found (next_piece settings c.memory (drop c.at s)) refl (rw e (piece_recognised settings c.memory b rest))
         where
-          found : (r : Recognised) → next_piece settings c.memory (drop c.at s) ≡ r → Recognises r → Tiled (length s) c.at (left settings s c)
-          found (R.Token p) q r =
+          found : (r : Option Piece) → next_piece settings c.memory (drop c.at s) ≡ r → Recognises r → Tiled (length s) c.at (left settings s c)
+          found (Some p) q r =
               let n : length (drop c.at s) ≡ suc (length rest) = ap length e in
               on p (record { at = c.at + p.len; memory = remembered c.memory p.kind (take p.len (drop c.at s)) p.alias })
               (moved settings s c p q (omega (arith, n, length-drop c.at s))) refl ih
-          found R.Nothing q r = absurd r
+          found None q r = absurd r
 
   pub tiled : Tiled (length s) 0 (tokens settings s)
   unfolding tokens

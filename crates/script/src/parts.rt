@@ -5,11 +5,11 @@ ghost use Rattle.script.specs.Settings.{cutter_settings};
 ghost use Rattle.script.specs.Parts.{parts};
 ghost use Rattle.script.specs.Places.{places_of};
 
-use crate::ending::{ended_count, start_past};
+use crate::ending::{ends_part, start_past};
 use crate::places::{PLACE_BYTES, put_ended};
 use calls::Settings;
-use recognisers::{Dialect, no_hints};
-use tokenizer::{Step, at_start, next_step};
+use recognisers::Dialect;
+use tokenizer::Tokens;
 
 pub fn cutter_settings() -> Settings
     ensures { result ≡ cutter_settings }
@@ -24,21 +24,9 @@ pub fn cutter_settings() -> Settings
 pub fn count_parts(script: &[u8]) -> usize
     ensures { result ≡ length (parts script.now) }
 {
-    let settings = cutter_settings();
-    let mut count = 0;
-    let mut hints = no_hints();
-    let mut cursor = at_start();
-    loop {
-        match next_step(script, settings, cursor, &mut hints) {
-            Step::Token(token, next) => {
-                count += ended_count(script, token);
-                cursor = next;
-            }
-            Step::Done => {
-                return count;
-            }
-        }
-    }
+    Tokens::new(script, cutter_settings())
+        .filter(|token| ends_part(script, *token))
+        .count()
 }
 
 // How many places were written.
@@ -47,21 +35,11 @@ pub fn write_parts(script: &[u8], places: &mut [u8]) -> usize
     ensures value { result ≡ length (parts script.now) }
     ensures places_after { places.new ≡ written_over (places_of (parts script.now)) places.old }
 {
-    let settings = cutter_settings();
     let mut at = 0;
     let mut from = 0;
-    let mut hints = no_hints();
-    let mut cursor = at_start();
-    loop {
-        match next_step(script, settings, cursor, &mut hints) {
-            Step::Token(token, next) => {
-                at = put_ended(script, from, token, places, at);
-                from = start_past(script, from, token);
-                cursor = next;
-            }
-            Step::Done => {
-                return at / PLACE_BYTES;
-            }
-        }
+    for token in Tokens::new(script, cutter_settings()) {
+        at = put_ended(script, from, token, places, at);
+        from = start_past(script, from, token);
     }
+    at / PLACE_BYTES
 }

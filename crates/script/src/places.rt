@@ -6,7 +6,7 @@ ghost use Rattle.script.specs.Places.{place_bytes, place_of, places_of};
 ghost use Rattle.script.specs.Inner.Ended.{ended_at};
 
 use crate::ending::ends_part;
-use calls::put_le32;
+use calls::put_le;
 use tokenizer::Token;
 
 pub const PLACE_BYTES: usize = 8;
@@ -16,8 +16,8 @@ fn put_place(places: &mut [u8], at: usize, from: usize, to: usize)
     requires room { at + place_bytes ≤ length places.old }
     ensures { places.new ≡ sets places.old at (place_of (between from to)) }
 {
-    put_le32(places, at, from as u64);
-    put_le32(places, at + 4, (to - from) as u64);
+    put_le::<4>(places, at, from as u64);
+    put_le::<4>(places, at + 4, (to - from) as u64);
 }
 
 // The place of the part that ends with a token, where one does; where the next place goes.

@@ -1,6 +1,8 @@
 -- Line comments: they are refused exactly where the first CR or LF is a CR without LF, they end at whitespace or at the end,
 -- and they end at the same place in a tight text that has a LF there or ends.
 -- Assumes nothing.
+use Rattle.std.specs.Prelude.{is_some, not}
+use Rattle.std.proofs.Common.{Option, Some, None}
 use Prim.Native.Nat.{ℕ, zero, suc, ◌+◌}
 use native.Mathlib.Omega.{arith}
 use mathlib.Core.Path.{◌≡◌, refl, sym, ap, ◌∙◌}
@@ -13,8 +15,6 @@ use Rattle.characters.specs.Ranges.{within, in_ranges}
 use Rattle.characters.specs.WhiteSpace.{white_space}
 use Rattle.characters.specs.Character.{continuations, continued, first_bits, with_bits, code_point}
 use Rattle.characters.specs.Classes.{is_whitespace}
-use Rattle.recognisers.specs.declared.Taken.{Taken}
-use Rattle.recognisers.specs.declared.Taken.TheVariants.{Bytes, Fails}
 use Rattle.recognisers.specs.Taking.{more, starts_with}
 use Rattle.recognisers.specs.Comment.{till_line_ending}
 use Rattle.recognisers.proofs.Spelling.{not_fails}
@@ -32,31 +32,31 @@ pub data Broken : ℕ → List ℕ → Type 0 where
   at_newline : {x : List ℕ} → Broken 0 (10 ∷ x)
   later : {n b : ℕ} {x : List ℕ} → Broken n x → Broken (suc n) (b ∷ x)
 
-broken_now : {x : List ℕ} → Broken 0 x → till_line_ending x ≡ Bytes 0
+broken_now : {x : List ℕ} → Broken 0 x → till_line_ending x ≡ Some 0
 unfolding till_line_ending
 broken_now at_nil = refl
 broken_now at_newline = refl
 
-zero≢suc : {A : Type 0} {n : ℕ} → Bytes 0 ≡ Bytes (suc n) → A
+zero≢suc : {A : Type 0} {n : ℕ} → Some 0 ≡ Some (suc n) → A
 zero≢suc {n} e = absurd (let z : 0 ≡ suc n = cc in omega arith)
 
-pub bytes_inj : {n m : ℕ} → Bytes n ≡ Bytes m → n ≡ m
+pub bytes_inj : {n m : ℕ} → Some n ≡ Some m → n ≡ m
 bytes_inj e = cc
 
 -- a byte of a line comment that is not its last
-inside : {n : ℕ} (t u v : Bool) (o : Taken) → cond t (Bytes 0) (cond u (cond v (Bytes 0) Fails) (more 1 o)) ≡ Bytes (suc n) → (t ≡ false) × (u ≡ false) × (o ≡ Bytes n)
+inside : {n : ℕ} (t u v : Bool) (o : Option ℕ) → cond t (Some 0) (cond u (cond v (Some 0) None) (more 1 o)) ≡ Some (suc n) → (t ≡ false) × (u ≡ false) × (o ≡ Some n)
 inside true u v o e = zero≢suc e
 inside false true true o e = zero≢suc e
 inside false true false o e = not_fails _ e
-inside false false v Fails e = not_fails _ e
-inside {n} false false v (Bytes m) e = (refl, refl, ap Bytes (let z : 1 + m ≡ suc n = bytes_inj e in omega arith))
+inside false false v None e = not_fails _ e
+inside {n} false false v (Some m) e = (refl, refl, ap Some (let z : 1 + m ≡ suc n = bytes_inj e in omega arith))
 
-pub line_sim : {n : ℕ} {x x' : List ℕ} → Sim n x x' → Broken n x' → till_line_ending x ≡ Bytes n → till_line_ending x' ≡ Bytes n
+pub line_sim : {n : ℕ} {x x' : List ℕ} → Sim n x x' → Broken n x' → till_line_ending x ≡ Some n → till_line_ending x' ≡ Some n
 unfolding till_line_ending
 line_sim nil b e = e
 line_sim (keep {n} {b} {x} s) (later r) e =
     let i = inside (eqb b 10) (eqb b 13) (starts_with 10 x) (till_line_ending x) e in
-    rw (i.0, i.1, line_sim s r i.2) (ap Bytes (omega arith))
+    rw (i.0, i.1, line_sim s r i.2) (ap Some (omega arith))
 line_sim (same s) r e = broken_now r
 line_sim (swap w p s) r e = broken_now r
 line_sim (lose w p s) r e = broken_now r
@@ -69,7 +69,7 @@ pub return_blank : (x : List ℕ) → is_blank (13 ∷ x) ≡ true
 unfolding is_whitespace in_ranges within white_space code_point continuations continued first_bits with_bits
 return_blank x = refl
 
-pub line_end : (x : List ℕ) (n : ℕ) → till_line_ending x ≡ Bytes n → (is_nil (drop n x) || is_blank (drop n x)) ≡ true
+pub line_end : (x : List ℕ) (n : ℕ) → till_line_ending x ≡ Some n → (is_nil (drop n x) || is_blank (drop n x)) ≡ true
 unfolding till_line_ending
 line_end [] zero e = refl
 line_end [] (suc n) e = refl
@@ -79,9 +79,9 @@ line_end (b ∷ x) zero e = go (eqb b 10) (eqb b 13) refl refl
     at : (c : ℕ) → is_blank (c ∷ x) ≡ true → b ≡ c → is_blank (b ∷ x) ≡ true
     at c h f = rw f h
 
-    more≢ : (o : Taken) → more 1 o ≡ Bytes 0 → ⊥
-    more≢ Fails f = not_fails _ f
-    more≢ (Bytes m) f = let z : 1 + m ≡ 0 = bytes_inj f in omega arith
+    more≢ : (o : Option ℕ) → more 1 o ≡ Some 0 → ⊥
+    more≢ None f = not_fails _ f
+    more≢ (Some m) f = let z : 1 + m ≡ 0 = bytes_inj f in omega arith
 
     go : (t u : Bool) → eqb b 10 ≡ t → eqb b 13 ≡ u → is_blank (b ∷ x) ≡ true
     go true u f g = at 10 (newline_blank x) (eqb-true b 10 f)
@@ -90,37 +90,44 @@ line_end (b ∷ x) zero e = go (eqb b 10) (eqb b 13) refl refl
 
 -- ---- where a line comment is refused
 
-abbrev refused : Taken → Bool
-refused (Bytes n) = false
-refused Fails = true
+abbrev refused : Option ℕ → Bool
+refused (Some n) = false
+refused None = true
 
 refused_is : (x : List ℕ) → refused (till_line_ending x) ≡ returns x
 unfolding till_line_ending returns
 refused_is [] = refl
 refused_is (b ∷ x) = go (eqb b 10) (eqb b 13) (starts_with 10 x) (till_line_ending x) (returns x) (refused_is x)
   where
-    go : (t u v : Bool) (o : Taken) (w : Bool) → refused o ≡ w → refused (cond t (Bytes 0) (cond u (cond v (Bytes 0) Fails) (more 1 o))) ≡ cond t false (cond u (not v) w)
+    go : (t u v : Bool) (o : Option ℕ) (w : Bool) → refused o ≡ w → refused (cond t (Some 0) (cond u (cond v (Some 0) None) (more 1 o))) ≡ cond t false (cond u (not v) w)
     go true u v o w e = refl
     go false true true o w e = refl
     go false true false o w e = refl
-    go false false v Fails w e = e
-    go false false v (Bytes m) w e = e
+    go false false v None w e = e
+    go false false v (Some m) w e = e
 
-pub line_return : (x : List ℕ) → till_line_ending x ≡ Fails → returns x ≡ true
+pub line_return : (x : List ℕ) → till_line_ending x ≡ None → returns x ≡ true
 line_return x e = sym (refused_is x) ∙ ap refused e
 
-pub return_line : (x : List ℕ) → returns x ≡ true → till_line_ending x ≡ Fails
+pub return_line : (x : List ℕ) → returns x ≡ true → till_line_ending x ≡ None
 return_line x e = go (till_line_ending x) (refused_is x ∙ e)
   where
-    go : (o : Taken) → refused o ≡ true → o ≡ Fails
-    go Fails h = refl
-    go (Bytes m) h = absurd (false≢true h)
+    go : (o : Option ℕ) → refused o ≡ true → o ≡ None
+    go None h = refl
+    go (Some m) h = absurd (false≢true h)
 
 -- no such CR from the comment's text on, nor behind the comment
-pub line_quiet : (x : List ℕ) (n : ℕ) → till_line_ending x ≡ Bytes n → returns x ≡ false
+pub line_quiet : (x : List ℕ) (n : ℕ) → till_line_ending x ≡ Some n → returns x ≡ false
 line_quiet x n e = sym (refused_is x) ∙ ap refused e
 
-pub line_end_quiet : (x : List ℕ) (n : ℕ) → till_line_ending x ≡ Bytes n → returns (drop n x) ≡ false
+-- as the code asks it
+pub none_returns : (x : List ℕ) (o : Option ℕ) (r : Bool) → o ≡ till_line_ending x → is_some o ≡ not r → r ≡ returns x
+none_returns x (Some n) false e f = sym (line_quiet x n (sym e))
+none_returns x (Some n) true e f = absurd (false≢true (sym f))
+none_returns x None false e f = absurd (false≢true f)
+none_returns x None true e f = sym (line_return x (sym e))
+
+pub line_end_quiet : (x : List ℕ) (n : ℕ) → till_line_ending x ≡ Some n → returns (drop n x) ≡ false
 unfolding till_line_ending returns
 line_end_quiet [] zero e = refl
 line_end_quiet [] (suc n) e = refl

@@ -1,5 +1,6 @@
 -- A reading counted from where it stands, and its tokens with what is told of the gaps between them.
 -- Assumes nothing.
+use Rattle.std.proofs.Common.{Option, Some, None}
 use Prim.Native.Nat.{ℕ, zero, suc, ◌+◌, pred}
 use native.Mathlib.Nat.{add_assoc}
 use native.Mathlib.Numerals.{add-one}
@@ -14,10 +15,8 @@ use Rattle.characters.specs.Character.{continuations, continued}
 use Rattle.characters.specs.Classes.{is_whitespace}
 use Rattle.characters.specs.Runs.{run}
 use Rattle.recognisers.specs.declared.Key.{Key}
-use Rattle.recognisers.specs.declared.Key.TheVariants.{None, Named, Escaped, ZeroIndexed, OneIndexed}
+use Rattle.recognisers.specs.declared.Key.TheVariants.{Named, Escaped, ZeroIndexed, OneIndexed}
 use Rattle.recognisers.specs.declared.Piece.{Piece}
-use Rattle.recognisers.specs.declared.Recognised.{Recognised}
-use Rattle.recognisers.specs.declared.Recognised.TheVariants as R
 use Rattle.recognisers.specs.declared.TokenKind.{TokenKind}
 use Rattle.recognisers.specs.declared.TokenKind.TheVariants as K
 use Rattle.recognisers.specs.Kinds.{kind_number, is_kind}
@@ -47,17 +46,17 @@ read_from settings memory passed [] = []
 read_from settings memory (suc passed) (b ∷ s) = read_from settings memory passed s
 read_from settings memory zero (b ∷ s) =
     elim (next_piece settings memory (b ∷ s)) [
-      | R.Token p ↦ piece_compared settings (b ∷ s) p ∷ read_from settings (past memory p (b ∷ s)) (pred p.len) s
-      | R.Nothing ↦ []
+      | Some p ↦ piece_compared settings (b ∷ s) p ∷ read_from settings (past memory p (b ∷ s)) (pred p.len) s
+      | None ↦ []
     ]
 
 -- what a key means does not depend on where it is counted from
-placed_meaning : (s : List ℕ) (at : ℕ) (key : Key) → meaning s (placed at key) ≡ meaning (drop at s) key
+placed_meaning : (s : List ℕ) (at : ℕ) (key : Option Key) → meaning s (placed at key) ≡ meaning (drop at s) key
 placed_meaning s at None = refl
-placed_meaning s at (Named start len) = rw (drop-drop start at s)
-placed_meaning s at (Escaped start len) = rw (drop-drop start at s, get_or-drop at s (start + len) 0, add_assoc at start len)
-placed_meaning s at (ZeroIndexed n) = refl
-placed_meaning s at (OneIndexed n) = refl
+placed_meaning s at (Some (Named start len)) = rw (drop-drop start at s)
+placed_meaning s at (Some (Escaped start len)) = rw (drop-drop start at s, get_or-drop at s (start + len) 0, add_assoc at start len)
+placed_meaning s at (Some (ZeroIndexed n)) = refl
+placed_meaning s at (Some (OneIndexed n)) = refl
 
 placed_compared : (settings : Settings) (s : List ℕ) (at : ℕ) (p : Piece) → compared s (token_at settings at p) ≡ piece_compared settings (drop at s) p
 unfolding compared
@@ -72,12 +71,12 @@ from_place settings s memory at passed [] e = refl
 from_place settings s memory at (suc passed) (b ∷ r) e = from_place settings s memory (suc at) passed r (next_place at b r s e)
 from_place settings s memory at zero (b ∷ r) e = go (next_piece settings memory (b ∷ r)) refl (λ m k. from_place settings s m (suc at) k r (next_place at b r s e))
   where
-    go : (q : Recognised) → next_piece settings memory (b ∷ r) ≡ q → ((m : Memory) (k : ℕ) → compared_all s (tokens_from settings m (suc at) k r) ≡ read_from settings m k r)
+    go : (q : Option Piece) → next_piece settings memory (b ∷ r) ≡ q → ((m : Memory) (k : ℕ) → compared_all s (tokens_from settings m (suc at) k r) ≡ read_from settings m k r)
         → compared_all s (tokens_from settings memory at zero (b ∷ r)) ≡ read_from settings memory zero (b ∷ r)
-    go (R.Token p) f ih =
+    go (Some p) f ih =
         rw (tokens_from, read_from, f)
         (rw (placed_compared settings s at p, e) (ap (λ (cs : List Compared). piece_compared settings (b ∷ r) p ∷ cs) (ih (past memory p (b ∷ r)) (pred p.len))))
-    go R.Nothing f ih = rw (tokens_from, read_from, f)
+    go None f ih = rw (tokens_from, read_from, f)
 
 pub reading_is : (settings : Settings) (s : List ℕ) → reading settings s ≡ read_from settings start 0 s
 unfolding reading tokens
@@ -95,7 +94,7 @@ pub read_none : (settings : Settings) (memory : Memory) → read_from settings m
 unfolding read_from
 read_none settings memory = refl
 
-pub read_one : (settings : Settings) (memory : Memory) (b : ℕ) (x : List ℕ) (p : Piece) (n : ℕ) → next_piece settings memory (b ∷ x) ≡ R.Token p → p.len ≡ suc n
+pub read_one : (settings : Settings) (memory : Memory) (b : ℕ) (x : List ℕ) (p : Piece) (n : ℕ) → next_piece settings memory (b ∷ x) ≡ Some p → p.len ≡ suc n
     → read_from settings memory 0 (b ∷ x) ≡ piece_compared settings (b ∷ x) p ∷ read_from settings (past memory p (b ∷ x)) 0 (drop n x)
 unfolding read_from
 read_one settings memory b x p n e l =
@@ -120,7 +119,7 @@ unfolding run
 run_text [] e = refl
 run_text (b ∷ x) e = rw e
 
-gap_piece : (settings : Settings) (memory : Memory) (b : ℕ) (x : List ℕ) (n : ℕ) → run is_whitespace 0 (b ∷ x) ≡ suc n → next_piece settings memory (b ∷ x) ≡ R.Token (piece K.Whitespace (suc n) None)
+gap_piece : (settings : Settings) (memory : Memory) (b : ℕ) (x : List ℕ) (n : ℕ) → run is_whitespace 0 (b ∷ x) ≡ suc n → next_piece settings memory (b ∷ x) ≡ Some (piece K.Whitespace (suc n) None)
 unfolding next_piece get_whitespace_token
 gap_piece settings memory b x n e = rw (e, le-leb 1 (suc n) (omega arith))
 
@@ -187,14 +186,14 @@ given_line joins kind = go (is_kind kind K.Join) joins refl
     go false j e = refl
 
 -- no piece is a gap where no whitespace stands
-piece_no_gap : (settings : Settings) (memory : Memory) (b : ℕ) (x : List ℕ) (p : Piece) → is_blank (b ∷ x) ≡ false → next_piece settings memory (b ∷ x) ≡ R.Token p → is_kind p.kind K.Whitespace ≡ false
+piece_no_gap : (settings : Settings) (memory : Memory) (b : ℕ) (x : List ℕ) (p : Piece) → is_blank (b ∷ x) ≡ false → next_piece settings memory (b ∷ x) ≡ Some p → is_kind p.kind K.Whitespace ≡ false
 unfolding next_piece
 piece_no_gap settings memory b x p h e =
-    let f : get_next_token settings memory (b ∷ x) ≡ R.Token p = rw (no_blank b x h) at e in
-    let g : NoGap (R.Token p) = rw f at (next_no_gap settings memory (b ∷ x)) in
+    let f : get_next_token settings memory (b ∷ x) ≡ Some p = rw (no_blank b x h) at e in
+    let g : NoGap (Some p) = rw f at (next_no_gap settings memory (b ∷ x)) in
     g
 
-pub compared_no_gap : (settings : Settings) (memory : Memory) (b : ℕ) (x : List ℕ) (p : Piece) → is_blank (b ∷ x) ≡ false → next_piece settings memory (b ∷ x) ≡ R.Token p
+pub compared_no_gap : (settings : Settings) (memory : Memory) (b : ℕ) (x : List ℕ) (p : Piece) → is_blank (b ∷ x) ≡ false → next_piece settings memory (b ∷ x) ≡ Some p
     → is_gap (piece_compared settings (b ∷ x) p) ≡ false
 unfolding is_gap
 compared_no_gap settings memory b x p h e = given_gap settings.joins p.kind (piece_no_gap settings memory b x p h e)

@@ -1,5 +1,6 @@
 -- A taker's law: of x and x' with `Sim n x x'` it takes the same, as far as n tells.
 -- Assumes nothing.
+use Rattle.std.proofs.Common.{Option, Some, None}
 use Prim.Native.Nat.{ℕ, zero, suc, ◌+◌}
 use native.Mathlib.Numerals.{one-add}
 use native.Mathlib.Omega.{arith}
@@ -12,8 +13,6 @@ use borrow.Author.Tests.{le-leb}
 use Rattle.characters.specs.Character.{is_continuation, continuations, continued}
 use Rattle.characters.specs.Classes.{is_whitespace, is_word_character}
 use Rattle.characters.specs.Runs.{run}
-use Rattle.recognisers.specs.declared.Taken.{Taken}
-use Rattle.recognisers.specs.declared.Taken.TheVariants.{Bytes, Fails}
 use Rattle.recognisers.specs.Taking.{Taker, or, done, one, spelled, typed, blanks, end_of_word, digit0, digit1, count, is_digit, contains}
 use Rattle.recognisers.specs.Taking as T
 use Rattle.recognisers.proofs.Spelling.{more_zero, more_more}
@@ -22,42 +21,42 @@ use Rattle.tight.proofs.Whitespace.{is_blank, none_blank, blank_byte, blank_whol
 use Rattle.tight.proofs.Sim.{Conts, last, more, blank, Separator, space, newline, return, Ends, at_end_lem, at_separator, Sim, nil, keep, same, swap, lose, Blankish, ended, starts, blankish, separator_blank, separator_ish, ends_ish, class_sim, blank_sim}
 
 -- both fail, or both take something; and where the first takes n bytes, so does the second
-pub data Same : ℕ → Taken → Taken → Type 0 where
-  neither : {n : ℕ} → Same n Fails Fails
-  equal : {n m : ℕ} → Same n (Bytes m) (Bytes m)
-  other : {n m m' : ℕ} → (m ≡ n → ⊥) → Same n (Bytes m) (Bytes m')
+pub data Same : ℕ → Option ℕ → Option ℕ → Type 0 where
+  neither : {n : ℕ} → Same n None None
+  equal : {n m : ℕ} → Same n (Some m) (Some m)
+  other : {n m m' : ℕ} → (m ≡ n → ⊥) → Same n (Some m) (Some m')
 
 abbrev pub Law : Taker → Type 0
 Law part = (n : ℕ) (x x' : List ℕ) → Sim n x x' → Same n (part x) (part x')
 
-pub same_refl : (n : ℕ) (t : Taken) → Same n t t
-same_refl n (Bytes m) = equal
-same_refl n Fails = neither
+pub same_refl : (n : ℕ) (t : Option ℕ) → Same n t t
+same_refl n (Some m) = equal
+same_refl n None = neither
 
-pub same_eq : (n : ℕ) {t t' : Taken} → t ≡ t' → Same n t t'
-same_eq n {t} e = subst (λ (u : Taken). Same n t u) e (same_refl n t)
+pub same_eq : (n : ℕ) {t t' : Option ℕ} → t ≡ t' → Same n t t'
+same_eq n {t} e = subst (λ (u : Option ℕ). Same n t u) e (same_refl n t)
 
 -- one byte more on both sides; on both sides, where none is kept; on the left side
-pub both_more : {n : ℕ} {t t' : Taken} → Same n t t' → Same (suc n) (T.more 1 t) (T.more 1 t')
+pub both_more : {n : ℕ} {t t' : Option ℕ} → Same n t t' → Same (suc n) (T.more 1 t) (T.more 1 t')
 both_more neither = neither
 both_more equal = equal
 both_more {n} (other {m} h) = other {n = suc n} (λ (e : 1 + m ≡ suc n). h (omega arith))
 
-pub free_more : {n : ℕ} {t t' : Taken} → Same n t t' → Same 0 (T.more 1 t) (T.more 1 t')
+pub free_more : {n : ℕ} {t t' : Option ℕ} → Same n t t' → Same 0 (T.more 1 t) (T.more 1 t')
 free_more neither = neither
 free_more equal = equal
 free_more (other {m} h) = other {n = 0} (λ (e : 1 + m ≡ 0). omega arith)
 
-pub left_more : {n : ℕ} {t t' : Taken} → Same n t t' → Same 0 (T.more 1 t) t'
+pub left_more : {n : ℕ} {t t' : Option ℕ} → Same n t t' → Same 0 (T.more 1 t) t'
 left_more neither = neither
 left_more (equal {m}) = other {n = 0} (λ (e : 1 + m ≡ 0). omega arith)
 left_more (other {m} h) = other {n = 0} (λ (e : 1 + m ≡ 0). omega arith)
 
-pub cond_same : {n : ℕ} (t : Bool) {o o' p p' : Taken} → Same n o o' → Same n p p' → Same n (cond t o p) (cond t o' p')
+pub cond_same : {n : ℕ} (t : Bool) {o o' p p' : Option ℕ} → Same n o o' → Same n p p' → Same n (cond t o p) (cond t o' p')
 cond_same true s r = s
 cond_same false s r = r
 
-pub or_same : {n : ℕ} {o o' p p' : Taken} → Same n o o' → Same n p p' → Same n (or o p) (or o' p')
+pub or_same : {n : ℕ} {o o' p p' : Option ℕ} → Same n o o' → Same n p p' → Same n (or o p) (or o' p')
 or_same neither r = r
 or_same equal r = equal
 or_same (other h) r = other h
@@ -77,7 +76,7 @@ pub one_law : (test : ℕ → Bool) → Quiet test → (then : Taker) → Law th
 unfolding one
 one_law test quiet then l n x x' s = go s
   where
-    none : {x : List ℕ} → Blankish x → one test then x ≡ Fails
+    none : {x : List ℕ} → Blankish x → one test then x ≡ None
     none ended = refl
     none (starts {b} c g w) = rw (quiet b g)
 
@@ -165,8 +164,8 @@ digit1_many then (b ∷ x) = go (is_digit b)
     after : T.more (suc (count is_digit x)) (then (drop (count is_digit x) x)) ≡ T.more 1 (many is_digit then x)
     after = sym (ap (T.more 1) (sym (digit0_many then x)) ∙ more_more 1 (count is_digit x) (then (drop (count is_digit x) x)) ∙ rw (one-add (count is_digit x)))
 
-    go : (t : Bool) → cond (leb 1 (cond t (suc (count is_digit x)) 0)) (T.more (cond t (suc (count is_digit x)) 0) (then (drop (cond t (suc (count is_digit x)) 0) (b ∷ x)))) Fails
-        ≡ cond t (T.more 1 (many is_digit then x)) Fails
+    go : (t : Bool) → cond (leb 1 (cond t (suc (count is_digit x)) 0)) (T.more (cond t (suc (count is_digit x)) 0) (then (drop (cond t (suc (count is_digit x)) 0) (b ∷ x)))) None
+        ≡ cond t (T.more 1 (many is_digit then x)) None
     go true = rw (le-leb 1 (suc (count is_digit x)) (omega arith)) after
     go false = refl
 
@@ -189,11 +188,11 @@ module _ (then : Taker) where
   -- the bytes of whitespace characters one by one, and what follows; k continuation bytes are due
   unfoldable eat : ℕ → Taker
   eat zero [] = then []
-  eat (suc k) [] = Fails
+  eat (suc k) [] = None
   eat zero (b ∷ x) = cond (is_blank (b ∷ x)) (T.more 1 (eat (continuations b) x)) (then (b ∷ x))
-  eat (suc k) (b ∷ x) = cond (is_continuation b) (T.more 1 (eat k x)) Fails
+  eat (suc k) (b ∷ x) = cond (is_continuation b) (T.more 1 (eat k x)) None
 
-  further : (n : ℕ) (x : List ℕ) (t : Taken) → t ≡ T.more n (then (drop n x)) → T.more 1 t ≡ T.more (suc n) (then (drop n x))
+  further : (n : ℕ) (x : List ℕ) (t : Option ℕ) → t ≡ T.more n (then (drop n x)) → T.more 1 t ≡ T.more (suc n) (then (drop n x))
   further n x t e = ap (T.more 1) e ∙ more_more 1 n (then (drop n x)) ∙ rw (one-add n)
 
   eat_run : (k : ℕ) (x : List ℕ) → continued k x ≡ k → eat k x ≡ T.more (run is_whitespace k x) (then (drop (run is_whitespace k x) x))
@@ -203,7 +202,7 @@ module _ (then : Taker) where
   eat_run (suc k) (b ∷ x) e = go (is_continuation b) refl (eat_run k x)
     where
       go : (t : Bool) → is_continuation b ≡ t → (continued k x ≡ k → eat k x ≡ T.more (run is_whitespace k x) (then (drop (run is_whitespace k x) x)))
-          → cond t (T.more 1 (eat k x)) Fails ≡ T.more (suc (run is_whitespace k x)) (then (drop (run is_whitespace k x) x))
+          → cond t (T.more 1 (eat k x)) None ≡ T.more (suc (run is_whitespace k x)) (then (drop (run is_whitespace k x) x))
       go true f h = further (run is_whitespace k x) x (eat k x) (h (let z : suc (continued k x) ≡ suc k = rw f at e in omega arith))
       go false f h = absurd (let z : 0 ≡ suc k = rw f at e in let y : ⊥ = omega arith in y)
   eat_run zero (b ∷ x) e = go (is_blank (b ∷ x)) refl (eat_run (continuations b) x)
@@ -214,17 +213,17 @@ module _ (then : Taker) where
       go true f h = rw (blank_whole b x f) (further (run is_whitespace (continuations b) x) x (eat (continuations b) x) (h (blank_whole b x f)))
       go false f h = sym (more_zero (then (b ∷ x)))
 
-  blanks_eat : (x : List ℕ) → blanks then x ≡ cond (is_blank x) (eat 0 x) Fails
+  blanks_eat : (x : List ℕ) → blanks then x ≡ cond (is_blank x) (eat 0 x) None
   unfolding blanks continued
   blanks_eat x = rw (eat_run 0 x refl)
 
   module _ (l : Law then) where
-    eat_conts : {k : ℕ} {x y : List ℕ} (n : ℕ) {o : Taken} → Conts k x y → Same n (eat 0 y) o → (m : ℕ) × Same m (eat k x) o
+    eat_conts : {k : ℕ} {x y : List ℕ} (n : ℕ) {o : Option ℕ} → Conts k x y → Same n (eat 0 y) o → (m : ℕ) × Same m (eat k x) o
     unfolding eat
     eat_conts n last s = (n, s)
     eat_conts n (more {c} {x} h r) s = (0, rw h (left_more (eat_conts n r s).1))
 
-    eat_none : (k : ℕ) {x : List ℕ} → Blankish x → eat (suc k) x ≡ Fails
+    eat_none : (k : ℕ) {x : List ℕ} → Blankish x → eat (suc k) x ≡ None
     unfolding eat
     eat_none k ended = refl
     eat_none k (starts c g w) = rw c
@@ -255,18 +254,18 @@ module _ (then : Taker) where
     eat_law (suc k) (lose w p s) = rw (eat_none k (blankish w), eat_none k (ends_ish p)) neither
 
     -- what follows the whitespace must not be content with nothing: at the end of x' there may be no whitespace any more
-    nil_same : {o : Taken} → then [] ≡ Fails → Same 0 o (eat 0 []) → Same 0 o (cond (is_blank []) (eat 0 []) Fails)
+    nil_same : {o : Option ℕ} → then [] ≡ None → Same 0 o (eat 0 []) → Same 0 o (cond (is_blank []) (eat 0 []) None)
     unfolding eat
     nil_same h r = rw (none_blank, ← h) r
 
-    pub blanks_law : then [] ≡ Fails → Law (blanks then)
+    pub blanks_law : then [] ≡ None → Law (blanks then)
     blanks_law h n x x' s = rw (blanks_eat x, blanks_eat x') (go s)
       where
-        ends : {x' : List ℕ} {o : Taken} → Ends x' → Same 0 o (eat 0 x') → Same 0 o (cond (is_blank x') (eat 0 x') Fails)
+        ends : {x' : List ℕ} {o : Option ℕ} → Ends x' → Same 0 o (eat 0 x') → Same 0 o (cond (is_blank x') (eat 0 x') None)
         ends at_end_lem r = nil_same h r
         ends (at_separator {x} q) r = rw (separator_blank x q) r
 
-        go : {n : ℕ} {x x' : List ℕ} → Sim n x x' → Same n (cond (is_blank x) (eat 0 x) Fails) (cond (is_blank x') (eat 0 x') Fails)
+        go : {n : ℕ} {x x' : List ℕ} → Sim n x x' → Same n (cond (is_blank x) (eat 0 x) None) (cond (is_blank x') (eat 0 x') None)
         go {n} nil = same_refl n _
         go (keep {b} {x} s) = rw (← blank_sim b s) (cond_same (is_blank (b ∷ x)) (eat_law 0 (keep s)) neither)
         go (same {b} {x} s) = rw (← blank_sim b s) (cond_same (is_blank (b ∷ x)) (eat_law 0 (same s)) neither)

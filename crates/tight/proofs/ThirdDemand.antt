@@ -1,14 +1,14 @@
 -- The third demand. For all accepted settings and any two accepted searches the tight texts are equal if and only if the
 -- searches agree; and each search agrees with its own tight text, which is accepted too. So the tight text can be trusted as
 -- a key for every accepted search, whatever CRs it holds.
--- `Agree` is in specs/Agree.antt, `tight` in specs/TightText.antt; `checked` is the tokenizer's: Accepted exactly where none
+-- `Agree` is in specs/Agree.antt, `tight` in specs/TightText.antt; `checked` is the tokenizer's: Ok exactly where none
 -- of the refusals 1, 2 and 3 applies.
 -- Assumes nothing.
+use Rattle.std.specs.Prelude.{Ok}
 use Prim.Native.Nat.{ℕ}
 use mathlib.Core.List.{List}
 use mathlib.Core.Logic.{◌↔◌}
 use mathlib.Core.Path.{◌≡◌, sym, ap, ◌∙◌}
-use Rattle.calls.specs.declared.Checked.TheVariants.{Accepted}
 use Rattle.calls.specs.declared.Settings.{Settings}
 use Rattle.calls.specs.Checks.{checked}
 use Rattle.tokenizer.specs.Memory.{start}
@@ -31,14 +31,14 @@ module _ (settings : Settings) where
   tight_agree s t e = items_agree settings s t (items_of_tight s ∙ ap (λ (u : List ℕ). items (reading settings u)) e ∙ sym (items_of_tight t))
 
 module _ (dialect joins named : ℕ) (settings : Settings) where
-  pub third_demand : (s t : List ℕ) → checked dialect joins named s ≡ Accepted settings → checked dialect joins named t ≡ Accepted settings
+  pub third_demand : (s t : List ℕ) → checked dialect joins named s ≡ Ok settings → checked dialect joins named t ≡ Ok settings
       → (tight settings s ≡ tight settings t) ↔ Agree settings s t
   third_demand s t a b = (tight_agree settings s t, agree_tight settings s t)
 
-  pub own_search : (s : List ℕ) → checked dialect joins named s ≡ Accepted settings
-      → (checked dialect joins named (tight settings s) ≡ Accepted settings) × Agree settings s (tight settings s)
+  pub own_search : (s : List ℕ) → checked dialect joins named s ≡ Ok settings
+      → (checked dialect joins named (tight settings s) ≡ Ok settings) × Agree settings s (tight settings s)
   own_search s a = (tight_accepted dialect joins named settings s a, items_agree settings s (tight settings s) (items_of_tight settings s))
 
   -- tightening twice gives what once gave
-  pub twice : (s : List ℕ) → checked dialect joins named s ≡ Accepted settings → tight settings (tight settings s) ≡ tight settings s
+  pub twice : (s : List ℕ) → checked dialect joins named s ≡ Ok settings → tight settings (tight settings s) ≡ tight settings s
   twice s a = sym (agree_tight settings s (tight settings s) (own_search s a).1)

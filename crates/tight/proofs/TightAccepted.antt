@@ -1,5 +1,7 @@
 -- The tight text of an accepted search is accepted: it is no longer than the search, and well formed.
 -- Assumes nothing.
+use Rattle.std.proofs.Common.{Some}
+use Rattle.std.specs.Prelude.{Ok}
 use Prim.Native.Nat.{ℕ, ◌+◌, ◌<◌}
 use native.Mathlib.Nat.{le_trans}
 use native.Mathlib.Omega.{arith}
@@ -12,10 +14,8 @@ use Rattle.characters.specs.Classes.{is_whitespace}
 use Rattle.characters.specs.Runs.{run}
 use Rattle.characters.specs.Utf8.{well_formed}
 use Rattle.characters.proofs.WellFormedCuts.{end_formed, run_cut}
-use Rattle.recognisers.specs.declared.Recognised.TheVariants as R
 use Rattle.recognisers.specs.declared.TokenKind.{TokenKind}
 use Rattle.recognisers.proofs.PieceBoundaries.{Bounded}
-use Rattle.calls.specs.declared.Checked.TheVariants.{Accepted}
 use Rattle.tokenizer.specs.declared.Memory.{Memory}
 use Rattle.calls.specs.declared.Settings.{Settings}
 use Rattle.calls.specs.Checks.{checked}
@@ -57,7 +57,7 @@ module _ (settings : Settings) where
   formed_cons b x ih memory h w =
       let f = found settings memory b x in
       let y : List ℕ = drop f.n x in
-      let cut : well_formed (drop f.p.len (b ∷ x)) ≡ true = (let q : Bounded (b ∷ x) (R.Token f.p) = rw f.is at (piece_bounded settings memory (b ∷ x) w) in q) in
+      let cut : well_formed (drop f.p.len (b ∷ x)) ≡ true = (let q : Bounded (b ∷ x) (Some f.p) = rw f.is at (piece_bounded settings memory (b ∷ x) w) in q) in
       let formed_y : well_formed (drop f.n x) ≡ true = rw f.long at cut in
       rw (render_one settings memory b x f.p f.n h f.is f.long)
       (replaced (b ∷ take f.n x) (drop f.n x) _ (rw (take-append-drop f.n x) w) formed_y
@@ -79,7 +79,7 @@ module _ (settings : Settings) where
 -- ---- it is accepted
 
 module _ (dialect joins named : ℕ) (settings : Settings) where
-  pub tight_accepted : (s : List ℕ) → checked dialect joins named s ≡ Accepted settings → checked dialect joins named (tight settings s) ≡ Accepted settings
+  pub tight_accepted : (s : List ℕ) → checked dialect joins named s ≡ Ok settings → checked dialect joins named (tight settings s) ≡ Ok settings
   tight_accepted s e =
       let a = accepts dialect joins named settings s e in
       accepted dialect joins named settings (tight settings s)

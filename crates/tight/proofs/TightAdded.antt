@@ -1,11 +1,12 @@
 -- What a token adds to the tight text: its length, its place in the text, and its bytes put into an output.
 -- Assumes nothing.
+use Rattle.std.proofs.Common.{Option, Some, None}
 use Prim.Native.Nat.{ℕ, ◌+◌, ◌-◌, ◌^◌, ◌≤◌, ◌<◌}
 use native.Mathlib.Omega.{arith}
 use mathlib.Core.Path.{◌≡◌, refl, sym, ◌∙◌}
 use mathlib.Core.Bool.{Bool, true, false}
 use mathlib.Core.List.{List, ◌∷◌, ◌++◌, append_assoc}
-use lib.ListN.{length, take, drop, set, length-append}
+use lib.ListN.{length, take, drop, length-append}
 use lib.Seq.{sets, length-sets}
 use mir.Syntax.{w64}
 use mir.Val.{Fits}
@@ -13,23 +14,20 @@ use Rattle.tokenizer.specs.declared.Token.{Token}
 use Rattle.tokenizer.specs.Values.{value}
 use Rattle.calls.proofs.Storing.{both_put, back, part_length_lem}
 use Rattle.tight.specs.declared.Gap.{Gap}
-use Rattle.tight.specs.declared.Gap.TheVariants.{Nothing, LineFeed, Space, Return}
-use Rattle.tight.specs.declared.Place.TheVariants.{Behind}
+use Rattle.tight.specs.declared.Gap.TheVariants.{LineFeed, Space, Return}
 use Rattle.tight.specs.declared.Spacing.{Spacing}
 use Rattle.tight.specs.TightText.{is_gap, becomes, gap_bytes, at_end, tight_from}
 use Rattle.tight.specs.Inner.Added.{added, added_length, spacing_past}
 
-pub gap_short : (gap : Gap) → length (gap_bytes gap) ≤ 1
-gap_short Nothing = omega arith
-gap_short LineFeed = omega arith
-gap_short Space = omega arith
-gap_short Return = omega arith
+pub gap_short : (gap : Option Gap) → length (gap_bytes gap) ≤ 1
+gap_short None = omega arith
+gap_short (Some gap) = omega arith
 
-pub last_short : (gap : Gap) → length (gap_bytes (at_end gap)) ≤ length (gap_bytes gap)
-last_short Nothing = omega arith
-last_short LineFeed = omega arith
-last_short Space = omega arith
-last_short Return = omega arith
+pub last_short : (gap : Option Gap) → length (gap_bytes (at_end gap)) ≤ length (gap_bytes gap)
+last_short None = omega arith
+last_short (Some LineFeed) = omega arith
+last_short (Some Space) = omega arith
+last_short (Some Return) = omega arith
 
 -- ---- the text from a token on: its added, and the text past it
 
@@ -44,9 +42,9 @@ module _ (s : List ℕ) (spacing : Spacing) (t : Token) where
           → tight_from s spacing.here spacing.lead (t ∷ ts)
           ≡ added s spacing.lead t ++ tight_from s (spacing_past s spacing t).here (spacing_past s spacing t).lead ts
       go true e = rw (tight_from, e)
-      go false e = rw (tight_from, e) (sym (append_assoc (gap_bytes spacing.lead) (value s t) (tight_from s (Behind t.kind) Nothing ts)))
+      go false e = rw (tight_from, e) (sym (append_assoc (gap_bytes spacing.lead) (value s t) (tight_from s (Some t.kind) None ts)))
 
-module _ (s : List ℕ) (lead : Gap) (t : Token) where
+module _ (s : List ℕ) (lead : Option Gap) (t : Token) where
   pub added_is_long : t.start + t.len ≤ length s → length (added s lead t) ≡ added_length lead t
   unfolding added added_length
   added_is_long h = go (is_gap t) refl
@@ -65,46 +63,21 @@ past_reach s spacing t n i j h e k = go (is_gap t) refl
     go true f = rw f (omega (arith, gap_short (becomes spacing.here (value s t))))
     go false f = rw f (omega arith)
 
--- ---- a gap, put
-
-module _ (gap : Gap) (output : List ℕ) (at : ℕ) (h : at + length (gap_bytes gap) ≤ length output) where
-  pub line_room : gap ≡ LineFeed → at < length output
-  line_room e = let k : at + length (gap_bytes LineFeed) ≤ length output = rw e at h in omega arith
-
-  pub space_room : gap ≡ Space → at < length output
-  space_room e = let k : at + length (gap_bytes Space) ≤ length output = rw e at h in omega arith
-
-  pub return_room : gap ≡ Return → at < length output
-  return_room e = let k : at + length (gap_bytes Return) ≤ length output = rw e at h in omega arith
-
-module _ (gap : Gap) (output : List ℕ) (at : ℕ) where
-  pub nothing_put : gap ≡ Nothing → output ≡ sets output at (gap_bytes gap)
-  nothing_put e = rw e
-
-  pub line_put : gap ≡ LineFeed → set output at 10 ≡ sets output at (gap_bytes gap)
-  line_put e = rw e
-
-  pub space_put : gap ≡ Space → set output at 32 ≡ sets output at (gap_bytes gap)
-  space_put e = rw e
-
-  pub return_put : gap ≡ Return → set output at 13 ≡ sets output at (gap_bytes gap)
-  return_put e = rw e
-
 -- ---- the spacing past a token
 
 module _ (s : List ℕ) (spacing : Spacing) (t : Token) (r : Bool) (e : r ≡ is_gap t) where
-  pub past_gap : r ≡ true → (lead : Gap) → lead ≡ becomes spacing.here (take (t.start + t.len - t.start) (drop t.start s))
+  pub past_gap : r ≡ true → (lead : Option Gap) → lead ≡ becomes spacing.here (take (t.start + t.len - t.start) (drop t.start s))
       → ◌≡◌ {A = Spacing} (record { here = spacing.here; lead = lead }) (spacing_past s spacing t)
   unfolding spacing_past
   past_gap f lead g = rw (← e, f, g, back t.start t.len)
 
-  pub past_token : r ≡ false → ◌≡◌ {A = Spacing} (record { here = Behind t.kind; lead = Nothing }) (spacing_past s spacing t)
+  pub past_token : r ≡ false → ◌≡◌ {A = Spacing} (record { here = Some t.kind; lead = None }) (spacing_past s spacing t)
   unfolding spacing_past
   past_token f = rw (← e, f)
 
 -- ---- what a token adds, put
 
-module _ (s output : List ℕ) (at : ℕ) (lead : Gap) (t : Token) (r : Bool) (e : r ≡ is_gap t) where
+module _ (s output : List ℕ) (at : ℕ) (lead : Option Gap) (t : Token) (r : Bool) (e : r ≡ is_gap t) where
   pub none_added : r ≡ true → output ≡ sets output at (added s lead t)
   unfolding added
   none_added f = rw (← e, f)

@@ -1,5 +1,6 @@
 -- The tight text reads as the statement does.
 -- Assumes nothing.
+use Rattle.std.proofs.Common.{Option, Some, None}
 use Prim.Native.Nat.{ℕ, zero, suc, ◌+◌}
 use native.Mathlib.Omega.{arith}
 use mathlib.Core.Path.{◌≡◌, refl, sym, ap, ◌∙◌}
@@ -11,10 +12,8 @@ use Rattle.characters.specs.Classes.{is_whitespace}
 use Rattle.characters.specs.Character.{continuations, continued}
 use Rattle.characters.specs.Runs.{run}
 use Rattle.recognisers.specs.declared.Key.{Key}
-use Rattle.recognisers.specs.declared.Key.TheVariants.{None, Named, Escaped, ZeroIndexed, OneIndexed}
+use Rattle.recognisers.specs.declared.Key.TheVariants.{Named, Escaped, ZeroIndexed, OneIndexed}
 use Rattle.recognisers.specs.declared.Piece.{Piece}
-use Rattle.recognisers.specs.declared.Recognised.{Recognised}
-use Rattle.recognisers.specs.declared.Recognised.TheVariants as R
 use Rattle.recognisers.specs.declared.TokenKind.{TokenKind}
 use Rattle.recognisers.specs.declared.TokenKind.TheVariants as K
 use Rattle.recognisers.specs.Kinds.{is_kind}
@@ -29,7 +28,7 @@ use Rattle.tokenizer.proofs.EndToEnd.{Recognises, piece_recognised}
 use Rattle.tight.specs.declared.Gap.{Gap}
 use Rattle.tight.specs.declared.Gap.TheVariants.{LineFeed, Space, Return}
 use Rattle.tight.specs.Returning.{returns}
-use Rattle.tight.specs.TightText.{gap_bytes}
+use Rattle.tight.specs.TightText.{gap_bytes, gap_byte}
 use Rattle.tight.specs.Agree.{meaning, only_gaps}
 use Rattle.tight.proofs.Whitespace.{is_blank, none_blank}
 use Rattle.tight.proofs.Sim.{Separator, space, newline, return, at_end_lem, Sim, nil, keep, same, swap, lose, blank, blank_sim, separator_blank, take_sim}
@@ -45,20 +44,20 @@ use Rattle.tight.proofs.GapRuns.{each_rest, gap_of_lem}
 pub record Found (settings : Settings) (memory : Memory) (b : ℕ) (x : List ℕ) : Type 0 where
   pub p : Piece
   pub n : ℕ
-  pub is : next_piece settings memory (b ∷ x) ≡ R.Token p
+  pub is : next_piece settings memory (b ∷ x) ≡ Some p
   pub long : p.len ≡ suc n
   pub sound : Sound (b ∷ x) p
 
 pub found : (settings : Settings) (memory : Memory) (b : ℕ) (x : List ℕ) → Found settings memory b x
 found settings memory b x = go (next_piece settings memory (b ∷ x)) refl (piece_recognised settings memory b x) (piece_sized settings memory (b ∷ x))
   where
-    of : (p : Piece) (n : ℕ) → p.len ≡ n → next_piece settings memory (b ∷ x) ≡ R.Token p → Sound (b ∷ x) p → Found settings memory b x
+    of : (p : Piece) (n : ℕ) → p.len ≡ n → next_piece settings memory (b ∷ x) ≡ Some p → Sound (b ∷ x) p → Found settings memory b x
     of p zero l e s = absurd (let k = s.some in let z : ⊥ = omega arith in z)
     of p (suc n) l e s = record { p = p; n = n; is = e; long = l; sound = s }
 
-    go : (q : Recognised) → next_piece settings memory (b ∷ x) ≡ q → Recognises q → Sized (b ∷ x) q → Found settings memory b x
-    go (R.Token p) e h s = of p p.len refl e s
-    go R.Nothing e h s = absurd h
+    go : (q : Option Piece) → next_piece settings memory (b ∷ x) ≡ q → Recognises q → Sized (b ∷ x) q → Found settings memory b x
+    go (Some p) e h s = of p p.len refl e s
+    go None e h s = absurd h
 
 pub only_gaps_lem : (settings : Settings) (memory : Memory) (z : List ℕ) → is_blank z ≡ false → only_gaps (read_from settings memory 0 z) ≡ is_nil z
 unfolding only_gaps
@@ -106,7 +105,7 @@ items_gap settings memory (b ∷ x) = go (is_blank (b ∷ x)) refl
     go true e = rw (read_gap settings memory b x e, is_gap_lem (run is_whitespace 0 (b ∷ x)) (b ∷ x))
     go false e = rw (run_text (b ∷ x) e)
 
-pub items_one : (settings : Settings) (memory : Memory) (b : ℕ) (x : List ℕ) (p : Piece) (n : ℕ) → is_blank (b ∷ x) ≡ false → next_piece settings memory (b ∷ x) ≡ R.Token p → p.len ≡ suc n
+pub items_one : (settings : Settings) (memory : Memory) (b : ℕ) (x : List ℕ) (p : Piece) (n : ℕ) → is_blank (b ∷ x) ≡ false → next_piece settings memory (b ∷ x) ≡ Some p → p.len ≡ suc n
     → items (read_from settings memory 0 (b ∷ x))
     ≡ item (piece_compared settings (b ∷ x) p) (mark (given_out settings.joins p.kind) (drop n x)) ∷ items (read_from settings (past memory p (b ∷ x)) 0 (after_gap (drop n x)))
 unfolding items
@@ -121,8 +120,8 @@ usual kind = cond (is_kind kind K.LineComment) LineFeed Space
 
 abbrev pub joint : Mark → TokenKind → List ℕ → List ℕ
 joint none kind z = z
-joint plain kind z = gap_bytes (usual kind) ++ z
-joint returning kind z = gap_bytes Return ++ z
+joint plain kind z = gap_bytes (Some (usual kind)) ++ z
+joint returning kind z = gap_bytes (Some Return) ++ z
 
 unfoldable pub render : List Item → List ℕ
 render [] = []
@@ -132,7 +131,7 @@ render (item c m ∷ is) = c.value ++ joint m c.kind (render is)
 pub record Separates (kind : TokenKind) : Type 0 where
   pub s : ℕ
   pub separator : Separator s
-  pub is : gap_bytes (usual kind) ≡ s ∷ []
+  pub is : gap_byte (usual kind) ≡ s
   pub line : is_kind kind K.LineComment ≡ true → s ≡ 10
   pub other : is_kind kind K.LineComment ≡ false → s ≡ 32
   pub sort : sort_after kind (s ∷ []) ≡ false
@@ -147,13 +146,13 @@ separates kind = go (is_kind kind K.LineComment) refl
 
 -- ---- what the first bytes tell is the same
 
-meaning_of : (n : ℕ) (key : Key) (r r' : List ℕ) → KeyFits n key → take n r ≡ take n r' → meaning r' key ≡ meaning r key
+meaning_of : (n : ℕ) (key : Option Key) (r r' : List ℕ) → KeyFits n key → take n r ≡ take n r' → meaning r' key ≡ meaning r key
 meaning_of n None r r' h e = refl
-meaning_of n (Named start len) r r' h e = rw (part_of start len n r h, part_of start len n r' h, e)
-meaning_of n (Escaped start len) r r' h e =
+meaning_of n (Some (Named start len)) r r' h e = rw (part_of start len n r h, part_of start len n r' h, e)
+meaning_of n (Some (Escaped start len)) r r' h e =
     rw (part_of start len n r (omega arith), part_of start len n r' (omega arith), byte_of (start + len) n r h, byte_of (start + len) n r' h, e)
-meaning_of n (ZeroIndexed i) r r' h e = refl
-meaning_of n (OneIndexed i) r r' h e = refl
+meaning_of n (Some (ZeroIndexed i)) r r' h e = refl
+meaning_of n (Some (OneIndexed i)) r r' h e = refl
 
 same_compared : (settings : Settings) (p : Piece) (r r' : List ℕ) → KeyFits p.len p.key → take p.len r ≡ take p.len r' → piece_compared settings r' p ≡ piece_compared settings r p
 same_compared settings p r r' h e = rw (meaning_of p.len p.key r r' h e, e)
@@ -266,7 +265,7 @@ module _ (settings : Settings) (memory : Memory) (kind : TokenKind) (y z' : List
       }
 
   -- such a gap, and a token
-  follow_gap : mark kind y ≡ plain → is_blank y ≡ true → sort_after kind (gap_of y) ≡ false → is_nil (after_gap y) ≡ false → Follow kind y (gap_bytes (usual kind) ++ z') z'
+  follow_gap : mark kind y ≡ plain → is_blank y ≡ true → sort_after kind (gap_of y) ≡ false → is_nil (after_gap y) ≡ false → Follow kind y (gap_bytes (Some (usual kind)) ++ z') z'
   unfolding returns starts_with
   follow_gap m b f g =
       let q = separates kind in
@@ -280,7 +279,7 @@ module _ (settings : Settings) (memory : Memory) (kind : TokenKind) (y z' : List
       })
 
   -- a gap that returns
-  follow_return : mark kind y ≡ returning → is_blank y ≡ true → sort_after kind (gap_of y) ≡ true → Follow kind y (gap_bytes Return ++ z') z'
+  follow_return : mark kind y ≡ returning → is_blank y ≡ true → sort_after kind (gap_of y) ≡ true → Follow kind y (gap_bytes (Some Return) ++ z') z'
   unfolding returns starts_with
   follow_return m b f =
       let l : is_kind kind K.LineComment ≡ false = sort_line kind (gap_of y) f in
@@ -301,7 +300,7 @@ module _ (settings : Settings) (memory : Memory) (kind : TokenKind) (y z' : List
       go true false true e f g = rw (mark_is kind y e f g) (follow_last (mark_is kind y e f g) f g)
       go true false false e f g = rw (mark_is kind y e f g) (follow_gap (mark_is kind y e f g) e f g)
 
-pub render_one : (settings : Settings) (memory : Memory) (b : ℕ) (x : List ℕ) (p : Piece) (n : ℕ) → is_blank (b ∷ x) ≡ false → next_piece settings memory (b ∷ x) ≡ R.Token p → p.len ≡ suc n
+pub render_one : (settings : Settings) (memory : Memory) (b : ℕ) (x : List ℕ) (p : Piece) (n : ℕ) → is_blank (b ∷ x) ≡ false → next_piece settings memory (b ∷ x) ≡ Some p → p.len ≡ suc n
     → render (items (read_from settings memory 0 (b ∷ x)))
     ≡ b ∷ (take n x ++ joint (mark (given_out settings.joins p.kind) (drop n x)) (given_out settings.joins p.kind) (render (items (read_from settings (past memory p (b ∷ x)) 0 (after_gap (drop n x))))))
 unfolding render
@@ -336,7 +335,7 @@ module _ (settings : Settings) (memory : Memory) (b : ℕ) (x : List ℕ) (w : i
       let k : Kept f.n x y' = kept f.n x y' o.sim in
       let x' : List ℕ = take f.n x ++ y' in
       let ends = (told settings memory b x w f.p f.is f.n f.long).1 in
-      let is' : next_piece settings memory (b ∷ (take f.n x ++ y')) ≡ R.Token f.p =
+      let is' : next_piece settings memory (b ∷ (take f.n x ++ y')) ≡ Some f.p =
       piece_sim settings memory b x w f.p f.is f.n (take f.n x ++ y') k.sim (kept_line y' z' o) f.long
       (λ l. k.broken (o.broken (given_line settings.joins f.p.kind ∙ l) (ends l).ends)) in
       let same_value : take f.p.len (b ∷ x) ≡ take f.p.len (b ∷ (take f.n x ++ y')) = rw f.long (take_sim (keep {b = b} k.sim)) in

@@ -1,7 +1,7 @@
 -- When two searches agree: the same tokens, with gaps of the same sorts in the same places.
-use Rattle.std.specs.Prelude.{ℕ, suc, Bool, true, cond, not, ◌&&◌, ◌||◌, List, [], ◌∷◌, ◌≡◌, eqb}
+use Rattle.std.specs.Prelude.{ℕ, suc, Bool, true, cond, not, ◌&&◌, ◌||◌, List, [], ◌∷◌, ◌≡◌, eqb, Option, Some, None}
 use Rattle.recognisers.specs.declared.Key.{Key}
-use Rattle.recognisers.specs.declared.Key.TheVariants.{None, Named, Escaped, ZeroIndexed, OneIndexed}
+use Rattle.recognisers.specs.declared.Key.TheVariants.{Named, Escaped, ZeroIndexed, OneIndexed}
 use Rattle.recognisers.specs.declared.TokenKind.{TokenKind}
 use Rattle.recognisers.specs.declared.TokenKind.TheVariants as K
 use Rattle.recognisers.specs.Kinds.{is_kind}
@@ -19,12 +19,12 @@ pub data Meaning : Type 0 where
   zero_indexed : ℕ → Meaning
   one_indexed : ℕ → Meaning
 
-abbrev pub meaning : List ℕ → Key → Meaning
+abbrev pub meaning : List ℕ → Option Key → Meaning
 meaning s None = none
-meaning s (Named start len) = named (key_text s (Named start len))
-meaning s (Escaped start len) = named (key_text s (Escaped start len))
-meaning s (ZeroIndexed n) = zero_indexed n
-meaning s (OneIndexed n) = one_indexed n
+meaning s (Some (Named start len)) = named (key_text s (Some (Named start len)))
+meaning s (Some (Escaped start len)) = named (key_text s (Some (Escaped start len)))
+meaning s (Some (ZeroIndexed n)) = zero_indexed n
+meaning s (Some (OneIndexed n)) = one_indexed n
 
 -- what is compared of a token
 pub record Compared : Type 0 where

@@ -4,56 +4,43 @@ ghost use Rattle.tight.specs.TightText.{is_gap, becomes, at_end, gap_bytes};
 ghost use Rattle.tight.specs.Inner.Added.{outside, spacing_past};
 
 use crate::returning::gap_after;
-use crate::{Gap, Place, Spacing};
-use recognisers::{TokenKind, is_kind};
+use crate::{Gap, Spacing};
+use recognisers::TokenKind;
 use tokenizer::Token;
 
+#[tactic(auto, unfolding(crate::specs::TightText::is_gap))]
 pub fn is_gap(token: Token) -> bool
     ensures { result ≡ is_gap token }
 {
-    let kind = token.kind;
-    is_kind(kind, TokenKind::Whitespace)
+    token.kind == TokenKind::Whitespace
 }
 
-fn gap_becomes(here: Place, gap: &[u8]) -> Gap
+// Before the first token it becomes nothing.
+fn gap_becomes(here: Option<TokenKind>, gap: &[u8]) -> Option<Gap>
     ensures { result ≡ becomes here gap.now }
 {
-    match here {
-        Place::First => Gap::Nothing,
-        Place::Behind(kind) => gap_after(kind, gap),
-    }
+    Some(gap_after(here?, gap))
 }
 
-pub fn gap_at_end(gap: Gap) -> Gap
+pub fn gap_at_end(gap: Option<Gap>) -> Option<Gap>
     ensures { result ≡ at_end gap }
 {
     match gap {
-        Gap::Nothing => Gap::Nothing,
-        Gap::LineFeed => Gap::Nothing,
-        Gap::Space => Gap::Nothing,
-        Gap::Return => Gap::Return,
+        Some(Gap::Return) => Some(Gap::Return),
+        _ => None,
     }
 }
 
-pub fn gap_length(gap: Gap) -> usize
+pub fn gap_length(gap: Option<Gap>) -> usize
     ensures { result ≡ length (gap_bytes gap) }
 {
-    match gap {
-        Gap::Nothing => 0,
-        Gap::LineFeed => 1,
-        Gap::Space => 1,
-        Gap::Return => 1,
-    }
+    usize::from(gap.is_some())
 }
 
 pub fn before_first() -> Spacing
     ensures { result ≡ outside }
 {
-    let nothing = Gap::Nothing;
-    Spacing {
-        here: Place::First,
-        lead: nothing,
-    }
+    Spacing::default()
 }
 
 pub fn spacing_past(statement: &[u8], spacing: Spacing, token: Token) -> Spacing
@@ -71,7 +58,7 @@ pub fn spacing_past(statement: &[u8], spacing: Spacing, token: Token) -> Spacing
         };
     }
     Spacing {
-        here: Place::Behind(kind),
-        lead: Gap::Nothing,
+        here: Some(kind),
+        lead: None,
     }
 }

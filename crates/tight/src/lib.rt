@@ -10,25 +10,17 @@ mod tightening;
 use recognisers::TokenKind;
 pub use tightening::tighten;
 
-// What a gap becomes.
+// What a gap becomes that doesn't become nothing.
 #[derive(Clone, Copy)]
 pub enum Gap {
-    Nothing,
     LineFeed,
     Space,
     Return,
 }
 
-// Where a gap stands: before the first token, or behind one of this kind.
-#[derive(Clone, Copy)]
-pub enum Place {
-    First,
-    Behind(TokenKind),
-}
-
-// Where the next gap stands, and what the gap just passed became, if there was one.
-#[derive(Clone, Copy)]
+// Where the next gap stands: behind a token of this kind, if there was one; and what the gap just passed became.
+#[derive(Clone, Copy, Default)]
 pub struct Spacing {
-    pub here: Place,
-    pub lead: Gap,
+    pub here: Option<TokenKind>,
+    pub lead: Option<Gap>,
 }

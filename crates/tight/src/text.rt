@@ -6,31 +6,20 @@ ghost use Rattle.tight.specs.TightText.{tight};
 use crate::adding::{added_length, put_added, put_gap};
 use crate::gaps::{before_first, gap_at_end, gap_length, spacing_past};
 use calls::Settings;
-use recognisers::no_hints;
-use tokenizer::{Step, at_start, next_step};
+use tokenizer::Tokens;
 
 pub fn tight_length(statement: &[u8], settings: Settings) -> usize
     ensures { result ≡ length (tight settings statement.now) }
 {
     let mut count = 0;
     let mut spacing = before_first();
-    let mut hints = no_hints();
-    let mut cursor = at_start();
-    loop {
-        match next_step(statement, settings, cursor, &mut hints) {
-            Step::Token(token, next) => {
-                let lead = spacing.lead;
-                count += added_length(lead, token);
-                spacing = spacing_past(statement, spacing, token);
-                cursor = next;
-            }
-            Step::Done => {
-                let lead = spacing.lead;
-                let last = gap_at_end(lead);
-                return count + gap_length(last);
-            }
-        }
+    for token in Tokens::new(statement, settings) {
+        let lead = spacing.lead;
+        count += added_length(lead, token);
+        spacing = spacing_past(statement, spacing, token);
     }
+    let last = gap_at_end(spacing.lead);
+    count + gap_length(last)
 }
 
 // How many bytes were written.
@@ -41,23 +30,13 @@ pub fn write_tight(statement: &[u8], settings: Settings, output: &mut [u8]) -> u
 {
     let mut at = 0;
     let mut spacing = before_first();
-    let mut hints = no_hints();
-    let mut cursor = at_start();
-    loop {
-        match next_step(statement, settings, cursor, &mut hints) {
-            Step::Token(token, next) => {
-                let lead = spacing.lead;
-                put_added(statement, lead, token, output, at);
-                at += added_length(lead, token);
-                spacing = spacing_past(statement, spacing, token);
-                cursor = next;
-            }
-            Step::Done => {
-                let lead = spacing.lead;
-                let last = gap_at_end(lead);
-                put_gap(last, output, at);
-                return at + gap_length(last);
-            }
-        }
+    for token in Tokens::new(statement, settings) {
+        let lead = spacing.lead;
+        put_added(statement, lead, token, output, at);
+        at += added_length(lead, token);
+        spacing = spacing_past(statement, spacing, token);
     }
+    let last = gap_at_end(spacing.lead);
+    put_gap(last, output, at);
+    at + gap_length(last)
 }

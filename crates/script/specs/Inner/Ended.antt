@@ -12,8 +12,5 @@ ends_part s t = is_cut s t || eqb (t.start + t.len) (length s)
 unfoldable pub ended_at : List ℕ → ℕ → Token → List Part
 ended_at s from t = cond (ends_part s t) (between from (t.start + t.len) ∷ []) []
 
-unfoldable pub ended_count : List ℕ → Token → ℕ
-ended_count s t = cond (ends_part s t) 1 0
-
 unfoldable pub start_past : List ℕ → ℕ → Token → ℕ
 start_past s from t = cond (ends_part s t) (t.start + t.len) from

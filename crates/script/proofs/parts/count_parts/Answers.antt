@@ -1,22 +1,23 @@
-use Rattle.recognisers.proofs.Unclosed.{truthful_none}
-use Rattle.tokenizer.proofs.Walks.{count_start, count_fits, count_more, token_less, token_inside}
-use Rattle.script.proofs.PartWalk.{one_counted, endings_fit, parts_counted}
+use Rattle.std.proofs.Common.{rules, inl, ◌∙◌}
+use Rattle.std.proofs.lemmas.Iterator.Adapters.{serves_from_places}
+use Rattle.std.proofs.lemmas.Iterator.Consumers.{YieldsList-at, YieldsList-from_first, YieldsList-from_filter, count_from_yields_List}
+use Rattle.script.specs.Inner.Ended.{ends_part}
+use Rattle.script.proofs.PartWalk.{parts_counted}
+use Rattle.tokenizer.specs.Left.{tokens_left}
+use Rattle.tokenizer.proofs.EachToken.{inside_at}
+use Rattle.tokenizer.proofs.OneStep.{left_fits}
+use Rattle.tokenizer.proofs.Walks.{begun}
 use Rattle.script.proofs.parts.count_parts.Goals as goal
 
-pub loop-token-init : goal.loop-token-init
-loop-token-init c = search (truthful_none, count_start)
+pub count-requires-clause-can : goal.count-requires-clause-can
+count-requires-clause-can c = (
+  tt,
+  tt,
+  serves_from_places (YieldsList-at c.filter.ensures.source (YieldsList-from_first (λ x. x) tokens_left _ c.new.ensures)) (λ x q k. search rules) (λ x k l e. search (rules, inside_at)),
+)
 
-pub ended_count-count-requires : goal.ended_count-count-requires
-ended_count-count-requires c = search token_inside
+pub count-requires-clause-fits : goal.count-requires-clause-fits
+count-requires-clause-fits c = inl (left_fits _ _ _ (begun _ _ _ _ c.filter.ensures.source c.new.ensures) (search rules))
 
-pub overflow_add-count : goal.overflow_add-count
-overflow_add-count c = search (count_fits, endings_fit, one_counted)
-
-pub loop-token-smaller : goal.loop-token-smaller
-loop-token-smaller c = search token_less
-
-pub loop-token-preserved : goal.loop-token-preserved
-loop-token-preserved c = search (count_more, one_counted)
-
-pub returns-in-Done : goal.returns-in-Done
-returns-in-Done c = search parts_counted
+pub returns : goal.returns
+returns c = count_from_yields_List _ _ c.count.ensures.ran (YieldsList-from_filter _ (ends_part c.args.script.now) (YieldsList-at c.filter.ensures.source (YieldsList-from_first (λ x. x) tokens_left _ c.new.ensures)) c.filter.ensures.closure (λ x r q k. search rules)) ∙ search parts_counted
