@@ -1,5 +1,6 @@
 -- The filled text is what the lookups of the tokens, one after the other, give: the counter runs through them from 0.
 -- Assumes nothing.
+use Rattle.std.specs.Prelude.{Ok}
 use Prim.Native.Nat.{ℕ, zero, suc}
 use native.Mathlib.Numerals.{add-one}
 use mathlib.Core.Path.{◌≡◌, refl, sym, ap, ◌∙◌}
@@ -7,7 +8,6 @@ use mathlib.Core.Bool.{false}
 use mathlib.Core.List.{List, [], ◌∷◌, ◌++◌}
 use lib.ListN.{length, drop}
 use lib.Seq.{drop-drop}
-use Rattle.calls.specs.declared.Checked.TheVariants.{Accepted}
 use Rattle.calls.specs.declared.Settings.{Settings}
 use Rattle.tokenizer.specs.declared.Token.{Token}
 use Rattle.tokenizer.specs.Tokens.{tokens}
@@ -24,7 +24,7 @@ lookups s dialect joins named sheet (suc n) place counter =
     lookup_bytes s dialect joins named sheet place counter
     ++ lookups s dialect joins named sheet n (suc place) (lookup_counter s dialect joins named sheet place counter)
 
-module _ (s : List ℕ) (dialect joins named : ℕ) (sheet : List ℕ) (settings : Settings) (e : checked_with s dialect joins named sheet ≡ Accepted settings) where
+module _ (s : List ℕ) (dialect joins named : ℕ) (sheet : List ℕ) (settings : Settings) (e : checked_with s dialect joins named sheet ≡ Ok settings) where
   -- a lookup is what stands for the token there
   there : (place counter : ℕ) (t : Token) (ts : List Token) → drop place (tokens settings s) ≡ t ∷ ts
       → lookup_found s dialect joins named sheet place counter ≡ found_for s sheet counter t

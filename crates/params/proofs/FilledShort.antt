@@ -1,5 +1,6 @@
 -- A filled text is no longer than the statement's length times that of the longest value: with so much room one pass is enough.
 -- Assumes nothing.
+use Rattle.std.specs.Prelude.{Ok}
 use Prim.Native.Nat.{ℕ, ◌+◌, ◌*◌, ◌≤◌}
 use native.Mathlib.Nat.{le_trans, mul-one, one-mul, mul-le-mul, mul-le-mul_left, mul-le-mul_right}
 use native.Mathlib.Omega.{arith}
@@ -12,7 +13,6 @@ use lib.ListN.{length, drop}
 use mir.Syntax.{w64}
 use mir.Val.{Fits}
 use Rattle.calls.specs.declared.Settings.{Settings}
-use Rattle.calls.specs.declared.TextAnswer.TheVariants.{Written}
 use Rattle.calls.specs.Texts.{text_answer, text_after}
 use Rattle.calls.proofs.TextCalls.{most_room, most_answer, most_output}
 use Rattle.tokenizer.specs.declared.Token.{Token}
@@ -73,7 +73,7 @@ module _ (s sheet : List ℕ) where
     pub one_pass_room : length (filled settings s sheet) ≤ length output
     one_pass_room = most_room (filled settings s sheet) output most short f
 
-    pub one_pass_answer : (n : ℕ) → n ≡ length (filled settings s sheet) → Written n ≡ text_answer (filled settings s sheet) (length output)
+    pub one_pass_answer : (n : ℕ) → n ≡ length (filled settings s sheet) → Ok n ≡ text_answer (filled settings s sheet) (length output)
     one_pass_answer = most_answer (filled settings s sheet) output most short f
 
     pub one_pass_output : (after : List ℕ) → after ≡ filled settings s sheet ++ drop (length (filled settings s sheet)) output → after ≡ text_after (filled settings s sheet) output

@@ -1,8 +1,10 @@
 -- Laws that the proofs cite, and theorems on the definitions.
 pub mod SheetContents
 pub mod SheetEntries
-pub mod KeyTexts
 pub mod EntriesInside
+pub mod EntryLists
+pub mod NamedEntries
+pub mod KeyTexts
 pub mod GetByCases
 pub mod TokensInside
 pub mod FillWalk

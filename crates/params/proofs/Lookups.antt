@@ -1,103 +1,81 @@
 -- The lookup: the token at a place, what stands for it, and what the caller is told.
 -- Assumes nothing.
-use Prim.Native.Nat.{ℕ, zero, suc, ◌-◌, ◌≤◌, ◌<◌, zero-le}
+use Prim.Native.Nat.{ℕ, zero, suc, ◌+◌, ◌≤◌, zero-le}
 use native.Mathlib.Omega.{arith}
-use mathlib.Core.Path.{◌≡◌, refl, sym, ap, ◌∙◌}
+use mathlib.Core.Path.{◌≡◌, refl, sym, ap, ◌∙◌, subst}
 use mathlib.Core.Bool.{true}
-use mathlib.Core.List.{List, ◌∷◌}
+use mathlib.Core.List.{List, [], ◌∷◌}
 use lib.ListN.{length, drop}
-use lib.Seq.{drop-nil}
 use Rattle.calls.specs.declared.Refusal.{Refusal}
-use Rattle.calls.specs.declared.Checked.{Checked}
-use Rattle.calls.specs.declared.Checked.TheVariants.{Accepted, Refused}
-use Rattle.tokenizer.specs.declared.Cursor.{Cursor}
 use Rattle.calls.specs.declared.Settings.{Settings}
-use Rattle.tokenizer.specs.declared.Step.{Step}
-use Rattle.tokenizer.specs.declared.Step.TheVariants as S
 use Rattle.tokenizer.specs.declared.Token.{Token}
 use Rattle.calls.specs.Refusals.{refusal_number, refusal_detail}
-use Rattle.tokenizer.specs.Memory.{start}
-use Rattle.tokenizer.specs.Tokens.{step_at, tokens}
-use Rattle.tokenizer.proofs.Steps.{left, step_moves, step_less, step_ends}
+use Rattle.tokenizer.specs.Tokens.{tokens}
+use Rattle.std.specs.Prelude.{Result, Ok, Err, Option, Some, None, slice_get}
+use Rattle.tokenizer.proofs.EachToken.{Each, each_inside}
 use Rattle.params.specs.declared.Found.{Found}
-use Rattle.params.specs.declared.Params.{Params}
-use Rattle.params.specs.declared.Part.{Part}
 use Rattle.params.specs.declared.Part.TheVariants as P
 use Rattle.params.specs.Sheet.{is_sheet}
 use Rattle.params.specs.Inner.Inside.{key_end, PartInside}
-use Rattle.params.specs.Inner.Carried.{params_at}
-use Rattle.params.specs.Filled.{stands_for, index_after, part_bytes, part_length, part_start}
+use Rattle.params.specs.Filled.{stands_for, part_length}
 use Rattle.params.specs.Answers.{checked_with, nothing_found, found_for, found_first, found_at, lookup_found, lookup_part, lookup_counter, lookup_number, lookup_detail}
-use Rattle.params.proofs.TokensInside.{step_inside, step_key, stands_inside}
+use Rattle.params.proofs.TokensInside.{each_key, stands_inside}
 
--- ---- one token
+-- ---- the token at a place
 
-module _ (s sheet : List ℕ) (counter : ℕ) (t : Token) (params : Params) (at : params ≡ params_at sheet counter) where
-  index_is : params.index ≡ counter
-  unfolding params_at
-  index_is = ap (λ (q : Params). q.index) at
+none_some : {X : Type 0} {t : Token} → ◌≡◌ {A = Option Token} None (Some t) → X
+none_some e = let z : ◌≡◌ {A = ℕ} 0 1 = cc in absurd (let w : ⊥ = omega arith in w)
 
-  pub found_turn : params ≡ params_at sheet params.index
-  found_turn = at ∙ ap (params_at sheet) (sym index_is)
+of_got : (P : Token → Type 0) (ts : List Token) (k : ℕ) (t : Token) → Each P ts → slice_get ts k ≡ Some t → P t
+of_got P [] k t h e = none_some e
+of_got P (u ∷ ts) zero t h e = let f : u ≡ t = cc in subst P f h.0
+of_got P (u ∷ ts) (suc k) t h e = of_got P ts k t h.1 e
 
-  pub found_told : (p : Part) (past : Params) → p ≡ stands_for s sheet params.index t → past ≡ params_at sheet (index_after s sheet params.index t)
-      → ◌≡◌ {A = Found} (record { part = p; counter = past.index }) (found_for s sheet counter t)
-  unfolding params_at
-  found_told p past e f =
-      let g : past.index ≡ index_after s sheet params.index t = ap (λ (q : Params). q.index) f in
-      rw (e, g, index_is)
+module _ (s sheet : List ℕ) (counter : ℕ) where
+  first_got : (ts : List Token) (k : ℕ) (t : Token) → slice_get ts k ≡ Some t → found_first s sheet counter (drop k ts) ≡ found_for s sheet counter t
+  unfolding found_first
+  first_got [] k t e = none_some e
+  first_got (u ∷ ts) zero t e = let f : u ≡ t = cc in ap (found_for s sheet counter) f
+  first_got (u ∷ ts) (suc k) t e = first_got ts k t e
 
--- ---- the token at a place: so many more are ahead of it
+  first_none : (ts : List Token) (k : ℕ) → slice_get ts k ≡ None → found_first s sheet counter (drop k ts) ≡ nothing_found counter
+  unfolding found_first
+  first_none [] zero e = refl
+  first_none [] (suc k) e = refl
+  first_none (u ∷ ts) zero e = none_some (sym e)
+  first_none (u ∷ ts) (suc k) e = first_none ts k e
 
-module _ (settings : Settings) (s : List ℕ) (place : ℕ) where
-  pub record Ahead (ahead : ℕ) (c : Cursor) : Type 0 where
-    pub rest : drop place (tokens settings s) ≡ drop ahead (left settings s c)
+module _ (settings : Settings) (s : List ℕ) (place : ℕ) (r : Option Token) (e : r ≡ slice_get (tokens settings s) place) where
+  module _ (t : Token) (f : r ≡ Some t) where
+    pub find_key : key_end t.key ≤ length s
+    find_key = of_got (λ u. key_end u.key ≤ length s) (tokens settings s) place t (each_key settings s) (sym e ∙ f)
 
-  pub find_start : (c : Cursor) → c ≡ record { at = 0; memory = start } → Ahead place c
-  unfolding tokens
-  find_start c e = record { rest = sym (ap (λ (d : Cursor). drop place (left settings s d)) e) }
+    pub find_inside : t.start + t.len ≤ length s
+    find_inside = of_got (λ u. u.start + u.len ≤ length s) (tokens settings s) place t (each_inside settings s) (sym e ∙ f)
 
-  module _ (ahead : ℕ) (c : Cursor) (r : Step) (at : Ahead ahead c) (e : r ≡ step_at settings s c) where
-    module _ (t : Token) (c' : Cursor) (f : r ≡ S.Token t c') where
-      pub find_key : key_end t.key ≤ length s
-      find_key = step_key settings s c t c' (sym e ∙ f)
+    module _ (sheet : List ℕ) (counter : ℕ) (found : Found) (g : found ≡ found_for s sheet counter t) where
+      pub find_found : found ≡ found_at settings s sheet place counter
+      unfolding found_at
+      find_found = g ∙ sym (first_got s sheet counter (tokens settings s) place t (sym e ∙ f))
 
-      pub find_less : length s - c'.at < length s - c.at
-      find_less = step_less settings s c r t c' e f
+      pub found_inside : is_sheet sheet ≡ true → PartInside s sheet found.part
+      found_inside good =
+          let p : found.part ≡ stands_for s sheet counter t = ap (λ (q : Found). q.part) g in
+          rw p (stands_inside s sheet good t find_inside counter)
 
-      here : drop place (tokens settings s) ≡ drop ahead (t ∷ left settings s c')
-      here = at.rest ∙ ap (drop ahead) (step_moves settings s c t c' (sym e ∙ f)).list
+  module _ (f : r ≡ None) (sheet : List ℕ) (counter : ℕ) (found : Found) (g : found ≡ nothing_found counter) where
+    pub find_none : found ≡ found_at settings s sheet place counter
+    unfolding found_at
+    find_none = g ∙ sym (first_none s sheet counter (tokens settings s) place (sym e ∙ f))
 
-      pub find_more : (ahead ≡ 0 → ⊥) → Ahead (ahead - 1) c'
-      find_more d = record { rest = here ∙ go ahead d }
-        where
-          go : (k : ℕ) → (k ≡ 0 → ⊥) → drop k (t ∷ left settings s c') ≡ drop (k - 1) (left settings s c')
-          go zero d = absurd (d refl)
-          go (suc k) d = let z : suc k - 1 ≡ k = omega arith in rw z
-
-      module _ (sheet : List ℕ) (counter : ℕ) (z : ahead ≡ 0) (found : Found) (g : found ≡ found_for s sheet counter t) where
-        pub find_found : found ≡ found_at settings s sheet place counter
-        unfolding found_at found_first
-        find_found = g ∙ sym (ap (found_first s sheet counter) (here ∙ ap (λ (k : ℕ). drop k (t ∷ left settings s c')) z))
-
-        pub found_inside : is_sheet sheet ≡ true → PartInside s sheet found.part
-        found_inside good =
-            let p : found.part ≡ stands_for s sheet counter t = ap (λ (q : Found). q.part) g in
-            rw p (stands_inside s sheet good t (step_inside settings s c t c' (sym e ∙ f)) counter)
-
-    module _ (f : r ≡ S.Done) (sheet : List ℕ) (counter : ℕ) (found : Found) (g : found ≡ nothing_found counter) where
-      pub find_none : found ≡ found_at settings s sheet place counter
-      unfolding found_at found_first
-      find_none = g ∙ sym (ap (found_first s sheet counter) (at.rest ∙ ap (drop ahead) (step_ends settings s c (sym e ∙ f)) ∙ drop-nil ahead))
-
-      pub none_inside : PartInside s sheet found.part
-      unfolding nothing_found
-      none_inside = let p : found.part ≡ (nothing_found counter).part = ap (λ (q : Found). q.part) g in rw p zero-le
+    pub none_inside : PartInside s sheet found.part
+    unfolding nothing_found
+    none_inside = let p : found.part ≡ (nothing_found counter).part = ap (λ (q : Found). q.part) g in rw p zero-le
 
 -- ---- what is told
 
-module _ (s : List ℕ) (dialect joins named : ℕ) (sheet : List ℕ) (r : Checked) (e : r ≡ checked_with s dialect joins named sheet) where
-  module _ (settings : Settings) (k : r ≡ Accepted settings) where
+module _ (s : List ℕ) (dialect joins named : ℕ) (sheet : List ℕ) (r : Result Settings Refusal) (e : r ≡ checked_with s dialect joins named sheet) where
+  module _ (settings : Settings) (k : r ≡ Ok settings) where
     pub accepted_number : 0 ≡ lookup_number s dialect joins named sheet
     unfolding lookup_number
     accepted_number = rw (← e, k)
@@ -120,7 +98,7 @@ module _ (s : List ℕ) (dialect joins named : ℕ) (sheet : List ℕ) (r : Chec
           ∙ ap part_length accepted_part
           ∙ (let z : part_length (lookup_part s dialect joins named sheet place counter) ≡ lookup_detail s dialect joins named sheet place counter = rw (← e, k) in z)
 
-  module _ (refusal : Refusal) (k : r ≡ Refused refusal) where
+  module _ (refusal : Refusal) (k : r ≡ Err refusal) where
     pub refused_number : (n : ℕ) → n ≡ refusal_number refusal → n ≡ lookup_number s dialect joins named sheet
     unfolding lookup_number
     refused_number n f = f ∙ rw (← e, k)
@@ -141,12 +119,3 @@ module _ (s : List ℕ) (dialect joins named : ℕ) (sheet : List ℕ) (r : Chec
       pub refused_detail : (n : ℕ) → n ≡ refusal_detail refusal → n ≡ lookup_detail s dialect joins named sheet place counter
       unfolding lookup_detail
       refused_detail n f = f ∙ rw (← e, k)
-
--- ---- what is handed back
-
-module _ (p sought : Part) (e : p ≡ sought) where
-  pub handed_bytes : (s sheet bytes : List ℕ) → bytes ≡ part_bytes s sheet p → bytes ≡ part_bytes s sheet sought
-  handed_bytes s sheet bytes f = f ∙ ap (part_bytes s sheet) e
-
-  pub handed_start : (a b at : ℕ × ℕ) → at ≡ part_start a b p → at ≡ part_start a b sought
-  handed_start a b at f = f ∙ ap (part_start a b) e

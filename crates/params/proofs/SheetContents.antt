@@ -3,19 +3,17 @@
 use Prim.Native.Nat.{ℕ, ◌+◌, ◌*◌, ◌≤◌, ◌<◌}
 use native.Mathlib.Omega.{arith}
 use mathlib.Core.Path.{◌≡◌, refl, sym, ◌∙◌}
-use mathlib.Core.Bool.{Bool, true, false, cond}
+use mathlib.Core.Bool.{Bool, true, false, cond, not, ◌&&◌}
 use mathlib.Core.List.{List}
 use borrow.Author.Tests.{le-leb, lt-leb, eq-eqb, ne_eqb, ltb-true, ltb-false}
 use lib.Dec.{leb, ltb, eqb}
 use lib.ListN.{length, get_or}
-use mir.Syntax.{w64}
-use mir.Val.{Fits}
-use Rattle.characters.specs.declared.IllFormed.{IllFormed}
-use Rattle.characters.specs.declared.IllFormed.TheVariants.{At, Nowhere}
+use Rattle.std.specs.Prelude.{Option, is_some}
 use Rattle.characters.specs.Utf8.{well_formed_from, first_ill_formed, well_formed}
 use Rattle.calls.specs.LittleEndian.{number_at}
 use Rattle.params.specs.declared.Lengths.{Lengths}
 use Rattle.params.specs.declared.Place.{Place}
+use Rattle.params.specs.declared.QueryParams.{QueryParams}
 use Rattle.params.specs.declared.QueryParams.TheVariants.{None, Named, Indexed}
 use Rattle.params.specs.Sheet.{kind_of, params_of, count_of, is_named, width, lengths_at, past, place_of, is_kind_and_count}
 
@@ -31,6 +29,24 @@ module _ (sheet : List ℕ) where
   pub no_params : (get_or sheet 0 0 ≡ 1 → ⊥) → (get_or sheet 0 0 ≡ 2 → ⊥) → None ≡ params_of sheet
   unfolding params_of kind_of
   no_params e f = rw (ne_eqb _ _ e, ne_eqb _ _ f)
+
+  module _ (q : QueryParams) (e : q ≡ params_of sheet) where
+    pub told_named : q ≡ Named → true ≡ is_named sheet
+    unfolding params_of is_named
+    told_named f = go (eqb (kind_of sheet) 1) (eqb (kind_of sheet) 2) (sym f ∙ e)
+      where
+        go : (a b : Bool) → Named ≡ cond a Named (cond b Indexed None) → true ≡ a
+        go true b g = refl
+        go false true g = absurd (let z : ◌≡◌ {A = ℕ} 0 1 = cc in let w : ⊥ = omega arith in w)
+        go false false g = absurd (let z : ◌≡◌ {A = ℕ} 0 1 = cc in let w : ⊥ = omega arith in w)
+
+    pub told_other : (q ≡ Named → ⊥) → false ≡ is_named sheet
+    unfolding params_of is_named
+    told_other d = go (eqb (kind_of sheet) 1) (eqb (kind_of sheet) 2) (λ f. d (e ∙ sym f))
+      where
+        go : (a b : Bool) → (Named ≡ cond a Named (cond b Indexed None) → ⊥) → false ≡ a
+        go true b g = absurd (g refl)
+        go false b g = refl
 
   pub count_is : (n : ℕ) → n ≡ number_at 2 sheet 1 → n ≡ count_of sheet
   unfolding count_of
@@ -57,15 +73,6 @@ module _ (sheet : List ℕ) where
 
   pub some_width : 1 ≤ width sheet
   some_width = either_width (λ w. 1 ≤ w) (omega arith) (omega arith)
-
-  pub bodies_product : (n w : ℕ) → n < 65536 → w ≡ width sheet → n * w ≤ 262140
-  bodies_product n w h e = rw e (either_width (λ v. n * v ≤ 262140) (omega arith) (omega arith))
-
-  pub product_fits : (n w : ℕ) → n < 65536 → w ≡ width sheet → Fits w64 (n * w)
-  product_fits n w h e = record { fits = omega (arith, bodies_product n w h e) }
-
-  pub bodies_fit : (n w : ℕ) → n < 65536 → w ≡ width sheet → Fits w64 (3 + n * w)
-  bodies_fit n w h e = record { fits = omega (arith, bodies_product n w h e) }
 
   pub first_is : (n w : ℕ) → n ≡ count_of sheet → w ≡ width sheet → ◌≡◌ {A = Place} (record { entry = 0; lengths = 3; body = 3 + n * w }) (place_of sheet 0)
   unfolding place_of
@@ -102,33 +109,29 @@ module _ (sheet : List ℕ) where
 
   -- ---- kind and count
 
-  pub high_kind : 2 < get_or sheet 0 0 → false ≡ is_kind_and_count sheet
+  pub some_kind : (get_or sheet 0 0 ≡ 0 → ⊥) → leb (get_or sheet 0 0) 2 ≡ is_kind_and_count sheet
   unfolding is_kind_and_count kind_of
-  high_kind h = rw (lt-leb _ _ h)
+  some_kind d = rw (le-leb 1 (get_or sheet 0 0) (omega (arith, d))) (sym (and_true (leb (get_or sheet 0 0) 2)))
+    where
+      and_true : (b : Bool) → (b && true) ≡ b
+      and_true true = refl
+      and_true false = refl
 
-  pub some_kind : get_or sheet 0 0 ≤ 2 → 1 ≤ get_or sheet 0 0 → true ≡ is_kind_and_count sheet
+  pub no_kind : (n : ℕ) → get_or sheet 0 0 ≡ 0 → n ≡ count_of sheet → eqb n 0 ≡ is_kind_and_count sheet
   unfolding is_kind_and_count kind_of
-  some_kind h k = rw (le-leb _ _ h, le-leb _ _ k)
-
-  pub no_kind : (n : ℕ) → get_or sheet 0 0 ≤ 2 → get_or sheet 0 0 < 1 → n ≡ count_of sheet → eqb n 0 ≡ is_kind_and_count sheet
-  unfolding is_kind_and_count kind_of
-  no_kind n h k e = rw (le-leb _ _ h, lt-leb _ _ k, e)
+  no_kind n h e = rw (h, e)
 
 -- ---- UTF-8
 
-module _ (bytes : List ℕ) (r : IllFormed) (e : r ≡ first_ill_formed bytes) where
-  pub ill_formed : (place : ℕ) → r ≡ At place → false ≡ well_formed bytes
+module _ (bytes : List ℕ) (r : Option ℕ) (e : r ≡ first_ill_formed bytes) (b : Bool) (f : is_some r ≡ not b) where
+  pub none_ill_formed : b ≡ well_formed bytes
   unfolding first_ill_formed well_formed
-  ill_formed place f = go (ltb (well_formed_from 0 bytes) (length bytes)) refl
+  none_ill_formed = go (ltb (well_formed_from 0 bytes) (length bytes)) refl
     where
-      go : (b : Bool) → ltb (well_formed_from 0 bytes) (length bytes) ≡ b → false ≡ leb (length bytes) (well_formed_from 0 bytes)
-      go true g = rw (lt-leb _ _ (ltb-true _ _ g))
-      go false g = let q : At place ≡ Nowhere = sym f ∙ e ∙ rw g in let z : ◌≡◌ {A = ℕ} 0 1 = cc in absurd (let w : ⊥ = omega arith in w)
+      turned : (x y : Bool) → x ≡ not y → y ≡ not x
+      turned x true g = rw g
+      turned x false g = rw g
 
-  pub all_well_formed : r ≡ Nowhere → true ≡ well_formed bytes
-  unfolding first_ill_formed well_formed
-  all_well_formed f = go (ltb (well_formed_from 0 bytes) (length bytes)) refl
-    where
-      go : (b : Bool) → ltb (well_formed_from 0 bytes) (length bytes) ≡ b → true ≡ leb (length bytes) (well_formed_from 0 bytes)
-      go false g = rw (le-leb _ _ (ltb-false _ _ g))
-      go true g = let q : Nowhere ≡ At (well_formed_from 0 bytes) = sym f ∙ e ∙ rw g in let z : ◌≡◌ {A = ℕ} 0 1 = cc in absurd (let w : ⊥ = omega arith in w)
+      go : (t : Bool) → ltb (well_formed_from 0 bytes) (length bytes) ≡ t → b ≡ leb (length bytes) (well_formed_from 0 bytes)
+      go true g = let q : is_some r ≡ true = rw (e, g) in turned (is_some r) b f ∙ rw (q, lt-leb _ _ (ltb-true _ _ g))
+      go false g = let q : is_some r ≡ false = rw (e, g) in turned (is_some r) b f ∙ rw (q, le-leb _ _ (ltb-false _ _ g))

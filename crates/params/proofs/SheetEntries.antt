@@ -78,9 +78,9 @@ module _ (sheet : List ℕ) where
 
     module _ (h : p.body + l.name + l.value ≤ length sheet) (b : Bool)
         (f : b ≡ well_formed (take (p.body + l.name - p.body) (drop p.body sheet))) where
-      pub name_bad : b ≡ false → false ≡ (leb (past sheet p).body (length sheet) && (well_formed (name_at sheet p) && well_formed (value_at sheet p)))
+      pub name_bad : b ≡ false → b ≡ (leb (past sheet p).body (length sheet) && (well_formed (name_at sheet p) && well_formed (value_at sheet p)))
       unfolding past name_at
-      name_bad g = let k : well_formed (take l.name (drop p.body sheet)) ≡ false = rw (← back p.body l.name) (sym f ∙ g) in rw (← e, le-leb _ _ h, k)
+      name_bad g = let k : well_formed (take l.name (drop p.body sheet)) ≡ false = rw (← back p.body l.name) (sym f ∙ g) in g ∙ rw (← e, le-leb _ _ h, k)
 
       pub value_told : (d : Bool) → b ≡ true → d ≡ well_formed (take (p.body + l.name + l.value - (p.body + l.name)) (drop (p.body + l.name) sheet))
           → d ≡ (leb (past sheet p).body (length sheet) && (well_formed (name_at sheet p) && well_formed (value_at sheet p)))
@@ -90,14 +90,13 @@ module _ (sheet : List ℕ) where
           let q : d ≡ well_formed (take l.value (drop (p.body + l.name) sheet)) = rw (back (p.body + l.name) l.value) at k in
           q ∙ rw (← e, le-leb _ _ h, m)
 
-  -- ---- the sheet is looked through: the entries before p are good
+  -- ---- the sheet is looked through: p is the place of entry number i, and the entries before it are good
 
-  pub record Checking (p : Place) : Type 0 where
-    pub stands : p ≡ place_of sheet p.entry
-    pub within : p.entry ≤ count_of sheet
+  pub record Checking (i : ℕ) (p : Place) : Type 0 where
+    pub stands : p ≡ place_of sheet i
     pub from : (place_of sheet 0).body ≤ length sheet
     pub inside : p.body ≤ length sheet
-    pub good : bodies_are_utf8 sheet p.entry ≡ true
+    pub good : bodies_are_utf8 sheet i ≡ true
 
   abbrev whole : Bool
   whole = fills_exactly sheet && bodies_are_utf8 sheet (count_of sheet)
@@ -117,64 +116,44 @@ module _ (sheet : List ℕ) where
     pub start_long : p ≡ place_of sheet 0 → length sheet < p.body → false ≡ whole
     start_long e h = too_long 0 zero-le (rw (← e) h)
 
-    pub check_start : p ≡ place_of sheet 0 → p.body ≤ length sheet → Checking p
-    unfolding bodies_are_utf8 place_of
-    check_start e h = rw e (record { stands = refl; within = zero-le; from = k; inside = k; good = refl })
-      where
-        k : (place_of sheet 0).body ≤ length sheet
-        k = let m : p.body ≡ (place_of sheet 0).body = ap (λ (q : Place). q.body) e in omega (arith, m)
+    pub check_start : p ≡ place_of sheet 0 → p.body ≤ length sheet → Checking 0 p
+    unfolding bodies_are_utf8
+    check_start e h = record { stands = e; from = rw e at h; inside = h; good = refl }
 
-    module _ (at : Checking p) (n : ℕ) (count : n ≡ count_of sheet) where
-      pub check_body : length sheet ≤ 65536 → p.body ≤ 65536
-      check_body h = omega (arith, at.inside)
+    module _ (i : ℕ) (at : Checking i p) where
+      pub check_entry : i < 65536 → p.entry ≤ 65536
+      check_entry h = let e : p.entry ≡ i = ap (λ (q : Place). q.entry) at.stands ∙ place_entry i in omega arith
 
-      module _ (h : p.entry < n) where
-        below : p.entry < count_of sheet
+      module _ (n : ℕ) (count : n ≡ count_of sheet) (h : i < n) where
+        below : i < count_of sheet
         below = rw (← count) h
 
         pub check_lengths : p.lengths + width sheet ≤ length sheet
         check_lengths =
-            let m : (place_of sheet p.entry).lengths + width sheet ≤ (place_of sheet 0).body = lengths_before p.entry below in
-            let l : p.lengths ≡ (place_of sheet p.entry).lengths = ap (λ (q : Place). q.lengths) at.stands in
+            let m : (place_of sheet i).lengths + width sheet ≤ (place_of sheet 0).body = lengths_before i below in
+            let l : p.lengths ≡ (place_of sheet i).lengths = ap (λ (q : Place). q.lengths) at.stands in
             omega (arith, m, l, at.from)
-
-        pub check_entry : n < 65536 → p.entry ≤ 65536
-        check_entry k = omega arith
 
         abbrev good_here : Bool
         good_here = leb (past sheet p).body (length sheet) && (well_formed (name_at sheet p) && well_formed (value_at sheet p))
 
-        next_stands : past sheet p ≡ place_of sheet (suc p.entry)
+        next_stands : past sheet p ≡ place_of sheet (suc i)
         unfolding place_of
         next_stands = ap (past sheet) at.stands
 
-        next_good : bodies_are_utf8 sheet (suc p.entry) ≡ (well_formed (name_at sheet p) && well_formed (value_at sheet p))
+        next_good : bodies_are_utf8 sheet (suc i) ≡ (well_formed (name_at sheet p) && well_formed (value_at sheet p))
         unfolding name_of value_of
-        next_good = rw (utf8_next p.entry, at.good, ← at.stands)
-
-        next_entry : (past sheet p).entry ≡ p.entry + 1
-        unfolding past
-        next_entry = refl
+        next_good = rw (utf8_next i, at.good, ← at.stands)
 
         module _ (b : Bool) (e : b ≡ good_here) where
-          pub check_more : b ≡ true → (q : Place) → q ≡ past sheet p → Checking q
-          check_more f q g = rw g (go (leb (past sheet p).body (length sheet)) refl)
+          pub check_more : b ≡ true → (q : Place) → q ≡ past sheet p → Checking (i + 1) q
+          check_more f q g = rw (g, add-one i) (go (leb (past sheet p).body (length sheet)) refl)
             where
-              go : (t : Bool) → leb (past sheet p).body (length sheet) ≡ t → Checking (past sheet p)
+              go : (t : Bool) → leb (past sheet p).body (length sheet) ≡ t → Checking (suc i) (past sheet p)
               go true k =
                   let m : (well_formed (name_at sheet p) && well_formed (value_at sheet p)) ≡ true = sym (sym f ∙ e ∙ rw k) in
-                  let j : (past sheet p).entry ≡ suc p.entry = next_entry ∙ add-one p.entry in
-                  record {
-                    stands = next_stands ∙ ap (place_of sheet) (sym j);
-                    within = rw j (omega (arith, below));
-                    from = at.from;
-                    inside = leb-true _ _ k;
-                    good = rw (j, next_good) m;
-                  }
+                  record { stands = next_stands; from = at.from; inside = leb-true _ _ k; good = rw next_good m }
               go false k = absurd (false≢true (sym (sym f ∙ e ∙ rw k)))
-
-          pub check_less : (q : Place) → q ≡ past sheet p → n - q.entry < n - p.entry
-          check_less q g = rw (g, next_entry) (omega arith)
 
           pub check_fails : b ≡ false → false ≡ whole
           check_fails f = go (leb (past sheet p).body (length sheet)) refl
@@ -182,20 +161,20 @@ module _ (sheet : List ℕ) where
               go : (t : Bool) → leb (past sheet p).body (length sheet) ≡ t → false ≡ whole
               go true k =
                   let m : (well_formed (name_at sheet p) && well_formed (value_at sheet p)) ≡ false = sym (sym f ∙ e ∙ rw k) in
-                  right_false (fills_exactly sheet) _ (utf8_up_to (suc p.entry) (count_of sheet) (omega (arith, below)) (next_good ∙ m))
-              go false k = too_long (suc p.entry) (omega (arith, below)) (rw (← next_stands) (leb-false _ _ k))
+                  right_false (fills_exactly sheet) _ (utf8_up_to (suc i) (count_of sheet) (omega (arith, below)) (next_good ∙ m))
+              go false k = too_long (suc i) (omega (arith, below)) (rw (← next_stands) (leb-false _ _ k))
 
-      pub check_end : n ≤ p.entry → eqb p.body (length sheet) ≡ whole
-      unfolding fills_exactly
-      check_end h =
-          let f : p.entry ≡ count_of sheet = omega (arith, count, at.within) in
-          let g : bodies_are_utf8 sheet (count_of sheet) ≡ true = rw (← f) at.good in
-          let k : p.body ≡ (place_of sheet (count_of sheet)).body = rw (← f) (ap (λ (q : Place). q.body) at.stands) in
-          rw (g, k) (sym (and_true (eqb (place_of sheet (count_of sheet)).body (length sheet))))
-        where
-          and_true : (b : Bool) → (b && true) ≡ b
-          and_true true = refl
-          and_true false = refl
+    pub check_end : (i n : ℕ) → n ≡ count_of sheet → i ≤ n → n ≤ i → Checking i p → eqb p.body (length sheet) ≡ whole
+    unfolding fills_exactly
+    check_end i n count h l at =
+        let d : count_of sheet ≡ i = omega arith in
+        let g : bodies_are_utf8 sheet (count_of sheet) ≡ true = rw d at.good in
+        let k : p.body ≡ (place_of sheet (count_of sheet)).body = rw d (ap (λ (q : Place). q.body) at.stands) in
+        rw (g, k) (sym (and_true (eqb (place_of sheet (count_of sheet)).body (length sheet))))
+      where
+        and_true : (b : Bool) → (b && true) ≡ b
+        and_true true = refl
+        and_true false = refl
 
   -- ---- a sheet that is not malformed
 
@@ -209,9 +188,9 @@ module _ (sheet : List ℕ) where
     overlong k = rw (le-leb _ _ h, lt-leb _ _ k)
 
     module _ (k : length sheet ≤ 65536) (b : Bool) (e : b ≡ is_kind_and_count sheet) where
-      pub wrong_kind : b ≡ false → false ≡ is_sheet sheet
+      pub wrong_kind : b ≡ false → b ≡ is_sheet sheet
       unfolding is_sheet is_sheet_length
-      wrong_kind f = rw (le-leb _ _ h, le-leb _ _ k, ← e, f)
+      wrong_kind f = f ∙ rw (le-leb _ _ h, le-leb _ _ k, ← e, f)
 
       pub sheet_told : (d : Bool) → b ≡ true → d ≡ whole → d ≡ is_sheet sheet
       unfolding is_sheet is_sheet_length

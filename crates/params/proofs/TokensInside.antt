@@ -1,63 +1,59 @@
--- A step's token: its text and its key's text lie inside the statement, and what stands for it inside its source.
+-- A token: its text and its key's text lie inside the statement, and what stands for it inside its source.
 -- Assumes nothing.
+use Rattle.std.proofs.Common.{None}
 use Prim.Native.Nat.{ℕ, ◌+◌, ◌≤◌, ◌<◌, zero-le}
-use native.Mathlib.Nat.{le_trans}
+use native.Mathlib.Nat.{le_refl, le_trans}
 use native.Mathlib.Omega.{arith}
-use mathlib.Core.Path.{◌≡◌, refl, sym, ◌∙◌}
+use mathlib.Core.Path.{◌≡◌, refl}
 use mathlib.Core.Bool.{Bool, true, false}
 use mathlib.Core.List.{List}
 use borrow.Author.Tests.{ltb-true}
 use lib.Dec.{ltb}
-use lib.ListN.{length, take, drop, length-drop}
+use lib.ListN.{length, drop, length-drop}
 use lib.Seq.{length-take-le}
+use Rattle.recognisers.specs.declared.Piece.{Piece}
 use Rattle.recognisers.specs.declared.Key.{Key}
 use Rattle.recognisers.specs.declared.Key.TheVariants as K
-use Rattle.recognisers.specs.declared.Recognised.{Recognised}
-use Rattle.recognisers.specs.declared.Recognised.TheVariants as R
-use Rattle.recognisers.proofs.PieceSizes.{KeyFits, Sized, Sound}
-use Rattle.tokenizer.specs.declared.Cursor.{Cursor}
+use Rattle.recognisers.proofs.PieceSizes.{KeyFits, Sized}
+use Rattle.std.specs.Iterator.{YieldsFirst}
+use Rattle.std.specs.Prelude.{Option, Some}
 use Rattle.calls.specs.declared.Settings.{Settings}
-use Rattle.tokenizer.specs.declared.Step.TheVariants as S
+use Rattle.tokenizer.specs.declared.Memory.{Memory}
 use Rattle.tokenizer.specs.declared.Token.{Token}
-use Rattle.tokenizer.specs.Memory.{remembered}
+use Rattle.tokenizer.specs.declared.walking.Tokens.{Tokens}
+use Rattle.tokenizer.specs.Left.{tokens_left}
 use Rattle.tokenizer.specs.NextToken.{next_piece}
-use Rattle.tokenizer.specs.Tokens.{placed, token_at, step_at}
+use Rattle.tokenizer.specs.Tokens.{placed, tokens}
+use Rattle.tokenizer.proofs.EachToken.{Each, each_token}
 use Rattle.tokenizer.proofs.NextPieceSizes.{piece_sized}
-use Rattle.tokenizer.proofs.Steps.{step_moves}
+use Rattle.tokenizer.proofs.Walks.{Rest, of_this}
 use Rattle.params.specs.declared.Part.{Part}
 use Rattle.params.specs.declared.Part.TheVariants as P
-use Rattle.params.specs.Sheet.{count_of, lengths_at, place_of, is_sheet}
+use Rattle.params.specs.Sheet.{count_of, place_of, is_sheet}
 use Rattle.params.specs.Inner.Inside.{key_end, PartInside}
 use Rattle.params.specs.Get.{taken, value_part, value_or, get}
 use Rattle.params.specs.Filled.{is_placeholder, stands_for, part_bytes, part_length}
-use Rattle.params.proofs.EntriesInside.{at_end_lem, stands, entry_of}
+use Rattle.params.proofs.EntriesInside.{at_end_lem}
 
-key_ends : (at n : ℕ) (key : Key) → KeyFits n key → key_end (placed at key) ≤ at + n
-key_ends at n K.None h = zero-le
-key_ends at n (K.Named start len) h = omega arith
-key_ends at n (K.Escaped start len) h = omega arith
-key_ends at n (K.ZeroIndexed i) h = zero-le
-key_ends at n (K.OneIndexed i) h = zero-le
+key_ends : (at n : ℕ) (key : Option Key) → KeyFits n key → key_end (placed at key) ≤ at + n
+key_ends at n None h = zero-le
+key_ends at n (Some (K.Named start len)) h = omega arith
+key_ends at n (Some (K.Escaped start len)) h = omega arith
+key_ends at n (Some (K.ZeroIndexed i)) h = zero-le
+key_ends at n (Some (K.OneIndexed i)) h = zero-le
 
-module _ (settings : Settings) (s : List ℕ) (c : Cursor) (t : Token) (c' : Cursor) (e : step_at settings s c ≡ S.Token t c') where
-  pub step_inside : t.start + t.len ≤ length s
-  step_inside = let m = step_moves settings s c t c' e in omega (arith, m.from, m.past, m.inside)
-
-  pub step_key : key_end t.key ≤ length s
-  unfolding step_at
-  step_key = go (ltb c.at (length s)) (next_piece settings c.memory (drop c.at s)) refl refl (piece_sized settings c.memory (drop c.at s))
+module _ (settings : Settings) (s : List ℕ) where
+  pub each_key : Each (λ t. key_end t.key ≤ length s) (tokens settings s)
+  each_key = each_token settings s (λ t. key_end t.key ≤ length s) (λ at. Unit {0}) one tt
     where
-      go : (b : Bool) (q : Recognised) → ltb c.at (length s) ≡ b → next_piece settings c.memory (drop c.at s) ≡ q → Sized (drop c.at s) (next_piece settings c.memory (drop c.at s))
-          → key_end t.key ≤ length s
-      go true (R.Token p) f g h =
-          let a : S.Token (token_at settings c.at p) (record { at = c.at + p.len; memory = remembered c.memory p.kind (take p.len (drop c.at s)) p.alias }) ≡ S.Token t c' = sym (rw (f, g)) ∙ e in
-          let x : t ≡ token_at settings c.at p = cc in
-          let k : Sound (drop c.at s) p = rw g at h in
-          let i : p.len ≤ length (drop c.at s) = k.inside in
-          let l : c.at < length s = ltb-true c.at (length s) f in
-          rw x (le_trans (key_ends c.at p.len p.key k.key_inside) (omega (arith, length-drop c.at s)))
-      go true R.Nothing f g h = let q : S.Done ≡ S.Token t c' = sym (rw (f, g)) ∙ e in let z : ◌≡◌ {A = ℕ} 0 1 = cc in absurd (let w : ⊥ = omega arith in w)
-      go false q f g h = let y : S.Done ≡ S.Token t c' = sym (rw f) ∙ e in let z : ◌≡◌ {A = ℕ} 0 1 = cc in absurd (let w : ⊥ = omega arith in w)
+      one : (memory : Memory) (at : ℕ) (p : Piece) → at < length s → Unit {0} → next_piece settings memory (drop at s) ≡ Some p → (key_end (placed at p.key) ≤ length s) × Unit {0}
+      one memory at p h u e =
+          let f : Sized (drop at s) (Some p) = rw e at (piece_sized settings memory (drop at s)) in
+          let i = f.inside in
+          (le_trans (key_ends at p.len p.key f.key_inside) (omega (arith, h, length-drop at s)), tt)
+
+  pub token_key : (it it' : Tokens) (r : Option Token) → Rest settings s it → YieldsFirst tokens_left it r it' → (t : Token) → r ≡ Some t → key_end t.key ≤ length s
+  token_key it it' r at e t f = of_this settings s it it' r at e t f (λ u. key_end u.key ≤ length s) each_key
 
 module _ (s sheet : List ℕ) (good : is_sheet sheet ≡ true) (t : Token) (inside : t.start + t.len ≤ length s) where
   value_inside : (n : ℕ) → PartInside s sheet (value_or sheet n t)
@@ -67,9 +63,7 @@ module _ (s sheet : List ℕ) (good : is_sheet sheet ≡ true) (t : Token) (insi
       go : (b : Bool) → ltb n (count_of sheet) ≡ b → PartInside s sheet (value_or sheet n t)
       go true e =
           let h : n < count_of sheet = ltb-true n (count_of sheet) e in
-          let f : (place_of sheet n).entry ≡ n = entry_of sheet (place_of sheet n) n refl in
-          let k : (place_of sheet n).body + (lengths_at sheet (place_of sheet n)).name + (lengths_at sheet (place_of sheet n)).value ≤ length sheet
-          = at_end_lem sheet good (place_of sheet n) (stands sheet (place_of sheet n) n refl) (count_of sheet) (omega (arith, f)) (omega arith) in
+          let k = at_end_lem sheet good (place_of sheet n) n refl (count_of sheet) h (le_refl (count_of sheet)) in
           rw e k
       go false e = rw e inside
 

@@ -1,6 +1,8 @@
 -- Two accepted sheets of one kind, with equal names and count, that differ only in values no placeholder takes give the same
 -- fill answer and bytes.
 -- Assumes nothing.
+use Rattle.std.proofs.Common.{Option, Some, None}
+use Rattle.std.specs.Prelude.{Result, Ok, Err}
 use Prim.Native.Nat.{ℕ, zero, suc, ◌+◌, ◌<◌}
 use native.Mathlib.Omega.{arith}
 use mathlib.Core.Path.{◌≡◌, refl, sym, ap, ◌∙◌}
@@ -11,8 +13,6 @@ use lib.Dec.{ltb}
 use Rattle.recognisers.specs.declared.Key.{Key}
 use Rattle.recognisers.specs.declared.Key.TheVariants as K
 use Rattle.recognisers.specs.Same.{same}
-use Rattle.calls.specs.declared.Checked.{Checked}
-use Rattle.calls.specs.declared.Checked.TheVariants.{Accepted, Refused}
 use Rattle.calls.specs.declared.Settings.{Settings}
 use Rattle.tokenizer.specs.declared.Token.{Token}
 use Rattle.calls.specs.Checks.{checked}
@@ -25,6 +25,7 @@ use Rattle.params.specs.Sheet.{kind_of, params_of, count_of, place_of, name_of, 
 use Rattle.params.specs.Get.{first_named, with_name, by_name, by_index, taken_from, taken, value_part, value_or, get, index_past}
 use Rattle.params.specs.Filled.{is_placeholder, stands_for, index_after, part_bytes, filled_from, filled}
 use Rattle.params.specs.Answers.{checked_with, fill_answer, fill_output}
+use Rattle.calls.specs.declared.Refusal.{Refusal}
 
 -- the values that the placeholders among these tokens take from sheet a, from a counter on, are the same in sheet b
 abbrev pub TakenAgree : List ℕ → List ℕ → List ℕ → ℕ → List Token → Type 0
@@ -49,23 +50,23 @@ module _ (s a b : List ℕ) (kind : kind_of a ≡ kind_of b) (count : count_of a
   unfolding with_name
   same_named text = same_first text (count_of a) 0 (omega arith) ∙ ap (first_named b text 0) count
 
-  same_by_name : (key : Key) → by_name s a key ≡ by_name s b key
+  same_by_name : (key : Option Key) → by_name s a key ≡ by_name s b key
   unfolding by_name
   same_by_name key = rw (same_named (key_text s key), count)
 
-  same_by_index : (index : ℕ) (key : Key) → by_index a index key ≡ by_index b index key
-  same_by_index index K.None = refl
-  same_by_index index (K.Named start len) = refl
-  same_by_index index (K.Escaped start len) = refl
-  same_by_index index (K.ZeroIndexed n) = refl
-  same_by_index index (K.OneIndexed n) = rw count
+  same_by_index : (index : ℕ) (key : Option Key) → by_index a index key ≡ by_index b index key
+  same_by_index index None = refl
+  same_by_index index (Some (K.Named start len)) = refl
+  same_by_index index (Some (K.Escaped start len)) = refl
+  same_by_index index (Some (K.ZeroIndexed n)) = refl
+  same_by_index index (Some (K.OneIndexed n)) = rw count
 
-  same_from : (q : QueryParams) (index : ℕ) (key : Key) → taken_from q s a index key ≡ taken_from q s b index key
+  same_from : (q : QueryParams) (index : ℕ) (key : Option Key) → taken_from q s a index key ≡ taken_from q s b index key
   same_from Q.Named index key = same_by_name key
   same_from Q.Indexed index key = rw (count, same_by_index index key)
   same_from Q.None index key = count
 
-  same_taken : (index : ℕ) (key : Key) → taken s a index key ≡ taken s b index key
+  same_taken : (index : ℕ) (key : Option Key) → taken s a index key ≡ taken s b index key
   unfolding taken
   same_taken index key = same_from (params_of a) index key ∙ ap (λ (q : QueryParams). taken_from q s b index key) same_params
 
@@ -102,19 +103,19 @@ module _ (s a b : List ℕ) (kind : kind_of a ≡ kind_of b) (count : count_of a
       ∙ ap (λ (l : List ℕ). part_bytes s b (stands_for s b index t) ++ l) (same_filled ts (index_after s a index t) h.1 ∙ ap (λ (i : ℕ). filled_from s b i ts) (same_after index t))
 
   module _ (good_a : is_sheet a ≡ true) (good_b : is_sheet b ≡ true) (dialect joins named : ℕ)
-      (agree : (settings : Settings) → checked dialect joins named s ≡ Accepted settings → TakenAgree s a b 0 (tokens settings s)) where
+      (agree : (settings : Settings) → checked dialect joins named s ≡ Ok settings → TakenAgree s a b 0 (tokens settings s)) where
     pub untaken_answer : (room : ℕ) → fill_answer s dialect joins named a room ≡ fill_answer s dialect joins named b room
     unfolding call_answer checked_with filled
     untaken_answer room = go (checked dialect joins named s) refl
       where
-        go : (c : Checked) → checked dialect joins named s ≡ c → fill_answer s dialect joins named a room ≡ fill_answer s dialect joins named b room
-        go (Accepted settings) e = rw (e, good_a, good_b) (ap (λ (text : List ℕ). text_answer text room) (same_filled (tokens settings s) 0 (agree settings e)))
-        go (Refused refusal) e = rw e
+        go : (c : Result Settings Refusal) → checked dialect joins named s ≡ c → fill_answer s dialect joins named a room ≡ fill_answer s dialect joins named b room
+        go (Ok settings) e = rw (e, good_a, good_b) (ap (λ (text : List ℕ). text_answer text room) (same_filled (tokens settings s) 0 (agree settings e)))
+        go (Err refusal) e = rw e
 
     pub untaken_output : (output : List ℕ) → fill_output s dialect joins named a output ≡ fill_output s dialect joins named b output
     unfolding call_output checked_with filled
     untaken_output output = go (checked dialect joins named s) refl
       where
-        go : (c : Checked) → checked dialect joins named s ≡ c → fill_output s dialect joins named a output ≡ fill_output s dialect joins named b output
-        go (Accepted settings) e = rw (e, good_a, good_b) (ap (λ (text : List ℕ). text_after text output) (same_filled (tokens settings s) 0 (agree settings e)))
-        go (Refused refusal) e = rw e
+        go : (c : Result Settings Refusal) → checked dialect joins named s ≡ c → fill_output s dialect joins named a output ≡ fill_output s dialect joins named b output
+        go (Ok settings) e = rw (e, good_a, good_b) (ap (λ (text : List ℕ). text_after text output) (same_filled (tokens settings s) 0 (agree settings e)))
+        go (Err refusal) e = rw e

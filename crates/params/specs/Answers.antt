@@ -1,11 +1,8 @@
 -- What a caller of `fill` and of `lookup` is told, and what becomes of all that is lent.
-use Rattle.std.specs.Prelude.{ℕ, cond, List, [], ◌∷◌, drop}
+use Rattle.std.specs.Prelude.{ℕ, cond, List, [], ◌∷◌, drop, Result, Ok, Err}
 use Rattle.std.specs.Borrow.{Bor}
 use Rattle.calls.specs.declared.Refusal.TheVariants as R
-use Rattle.calls.specs.declared.Checked.{Checked}
-use Rattle.calls.specs.declared.Checked.TheVariants.{Accepted, Refused}
 use Rattle.calls.specs.declared.Settings.{Settings}
-use Rattle.calls.specs.declared.TextAnswer.{TextAnswer}
 use Rattle.calls.specs.Checks.{checked, accepted_or, told_number, told_detail}
 use Rattle.calls.specs.Texts.{call_answer, call_output}
 use Rattle.tokenizer.specs.declared.Token.{Token}
@@ -15,19 +12,20 @@ use Rattle.params.specs.declared.Part.{Part}
 use Rattle.params.specs.declared.Part.TheVariants as P
 use Rattle.params.specs.Sheet.{is_sheet}
 use Rattle.params.specs.Filled.{stands_for, index_after, part_bytes, part_length, part_start, filled}
+use Rattle.calls.specs.declared.Refusal.{Refusal}
 
 -- a malformed sheet is refused once the statement and the settings are accepted
-abbrev pub with_sheet : List ℕ → Checked → Checked
-with_sheet sheet (Accepted settings) = cond (is_sheet sheet) (Accepted settings) (Refused R.Sheet)
-with_sheet sheet (Refused refusal) = Refused refusal
+abbrev pub with_sheet : List ℕ → Result Settings Refusal → Result Settings Refusal
+with_sheet sheet (Ok settings) = cond (is_sheet sheet) (Ok settings) (Err R.Sheet)
+with_sheet sheet (Err refusal) = Err refusal
 
-unfoldable pub checked_with : List ℕ → ℕ → ℕ → ℕ → List ℕ → Checked
+unfoldable pub checked_with : List ℕ → ℕ → ℕ → ℕ → List ℕ → Result Settings Refusal
 checked_with s dialect joins named sheet = with_sheet sheet (checked dialect joins named s)
 
 -- ---- fill
 
 -- the answer, for a statement, the settings as numbers, a sheet and an output of so many bytes
-abbrev pub fill_answer : List ℕ → ℕ → ℕ → ℕ → List ℕ → ℕ → TextAnswer
+abbrev pub fill_answer : List ℕ → ℕ → ℕ → ℕ → List ℕ → ℕ → Result ℕ Refusal
 fill_answer s dialect joins named sheet room = call_answer (λ settings. filled settings s sheet) room (checked_with s dialect joins named sheet)
 
 -- the whole output afterwards

@@ -1,5 +1,5 @@
 -- `Params::get`: the entry that a placeholder takes, its value's place, and the counter past it.
-use Rattle.std.specs.Prelude.{ℕ, zero, suc, ◌+◌, ◌-◌, cond, List, ltb, eqb}
+use Rattle.std.specs.Prelude.{ℕ, zero, suc, ◌+◌, ◌-◌, cond, List, ltb, eqb, Option, Some, None}
 use Rattle.recognisers.specs.declared.Key.{Key}
 use Rattle.recognisers.specs.declared.Key.TheVariants as K
 use Rattle.recognisers.specs.Same.{same}
@@ -24,23 +24,23 @@ unfoldable pub with_name : List ℕ → List ℕ → ℕ
 with_name sheet text = first_named sheet text 0 (count_of sheet)
 
 -- an index has the empty text as its name
-unfoldable pub by_name : List ℕ → List ℕ → Key → ℕ
+unfoldable pub by_name : List ℕ → List ℕ → Option Key → ℕ
 by_name s sheet key = cond (has_key key) (with_name sheet (key_text s key)) (count_of sheet)
 
 -- by the index, else the next in turn; a one-indexed zero counts as past the end
-abbrev pub by_index : List ℕ → ℕ → Key → ℕ
-by_index sheet index K.None = index
-by_index sheet index (K.Named start len) = index
-by_index sheet index (K.Escaped start len) = index
-by_index sheet index (K.ZeroIndexed n) = n
-by_index sheet index (K.OneIndexed n) = cond (eqb n 0) (count_of sheet) (n - 1)
+abbrev pub by_index : List ℕ → ℕ → Option Key → ℕ
+by_index sheet index None = index
+by_index sheet index (Some (K.Named start len)) = index
+by_index sheet index (Some (K.Escaped start len)) = index
+by_index sheet index (Some (K.ZeroIndexed n)) = n
+by_index sheet index (Some (K.OneIndexed n)) = cond (eqb n 0) (count_of sheet) (n - 1)
 
-abbrev pub taken_from : QueryParams → List ℕ → List ℕ → ℕ → Key → ℕ
+abbrev pub taken_from : QueryParams → List ℕ → List ℕ → ℕ → Option Key → ℕ
 taken_from Q.Named s sheet index key = by_name s sheet key
 taken_from Q.Indexed s sheet index key = cond (has_name s key) (count_of sheet) (by_index sheet index key)
 taken_from Q.None s sheet index key = count_of sheet
 
-unfoldable pub taken : List ℕ → List ℕ → ℕ → Key → ℕ
+unfoldable pub taken : List ℕ → List ℕ → ℕ → Option Key → ℕ
 taken s sheet index key = taken_from (params_of sheet) s sheet index key
 
 -- ---- what stands for the placeholder
@@ -70,10 +70,10 @@ unfoldable pub counted_on : ℕ → ℕ
 counted_on index = cond (ltb index largest) (index + 1) index
 
 -- it moves where an indexed sheet gives the next value in turn, or would
-abbrev pub index_from : QueryParams → List ℕ → ℕ → Key → ℕ
+abbrev pub index_from : QueryParams → List ℕ → ℕ → Option Key → ℕ
 index_from Q.Named s index key = index
 index_from Q.Indexed s index key = cond (has_name s key) index (cond (has_no_index key) (counted_on index) index)
 index_from Q.None s index key = index
 
-unfoldable pub index_past : List ℕ → List ℕ → ℕ → Key → ℕ
+unfoldable pub index_past : List ℕ → List ℕ → ℕ → Option Key → ℕ
 index_past s sheet index key = index_from (params_of sheet) s index key

@@ -1,6 +1,6 @@
 -- For the contracts of inner functions, and for what `lookup_part` says of its part beside the equation: no other promise of
 -- the crate names any of it.
-pub mod Carried
-pub mod Cases
+pub mod Entries
 pub mod Inside
 pub mod Longest
+pub mod Placed

@@ -1,13 +1,13 @@
 // src/params.rs: the value sheet, `Params::get` over it, `fill` and `lookup`.
 #![tactic(auto)]
 
+mod entries;
 mod filling;
 mod getting;
 mod keys;
 mod longest;
 mod looking;
 mod parts;
-mod places;
 mod sheet;
 mod text;
 
@@ -15,7 +15,7 @@ pub use filling::fill;
 pub use looking::{lookup, lookup_part};
 pub use sheet::is_sheet;
 
-// What a sheet holds.
+// What a sheet holds: the Rust's own enum, in which None is a kind of its own.
 #[derive(Clone, Copy)]
 pub enum QueryParams {
     None,
@@ -38,14 +38,7 @@ pub struct Lengths {
     pub value: usize,
 }
 
-// The counter, and the place of the value that is next in turn; behind the last entry where there is none.
-#[derive(Clone, Copy)]
-pub struct Params {
-    pub index: u64,
-    pub next: Place,
-}
-
-// A part of the statement or a part of the sheet.
+// A part of the statement or a part of the sheet: both are sources, and neither is none.
 #[derive(Clone, Copy)]
 pub enum Part {
     Statement { start: usize, len: usize },

@@ -1,17 +1,16 @@
 // `lookup`: what stands for one token, handed back as a part of the statement or of the sheet.
-ghost use Rattle.std.specs.Prelude.{◌≡◌, true, ◌≤◌, length};
-ghost use Rattle.params.specs.Sheet.{is_sheet};
-ghost use Rattle.params.specs.Inner.Inside.{key_end, PartInside};
+ghost use Rattle.std.specs.Prelude.{◌≡◌};
+ghost use Rattle.params.specs.Inner.Inside.{PartInside};
 ghost use Rattle.params.specs.Answers.{nothing_found, found_for, found_at, lookup_part, lookup_bytes, lookup_start, lookup_counter, lookup_number, lookup_detail};
 
 use crate::filling::check_with;
-use crate::getting::{params_past, stands_for};
+use crate::getting::params_at;
+use crate::keys::PlacedToken;
 use crate::parts::{part_length, part_of};
-use crate::places::params_at;
+use crate::sheet::Sheet;
 use crate::{Found, Part};
-use calls::{Checked, Settings, refusal_detail, refusal_number};
-use recognisers::no_hints;
-use tokenizer::{Step, Token, at_start, next_step};
+use calls::Settings;
+use tokenizer::Tokens;
 
 // The empty start of the statement.
 fn nothing_found(counter: u64) -> Found
@@ -23,46 +22,32 @@ fn nothing_found(counter: u64) -> Found
     }
 }
 
-fn found_for(statement: &[u8], sheet: &[u8], counter: u64, token: Token) -> Found
-    requires sheet_value { is_sheet sheet.now ≡ true }
-    requires key_in_bounds { key_end token.key ≤ length statement.now }
-    ensures { result ≡ found_for statement.now sheet.now counter token }
+fn found_for(sheet: Sheet<'_>, counter: u64, token: PlacedToken<'_>) -> Found
+    ensures { result ≡ found_for token.entry.statement.now sheet.entry.bytes.now counter token.entry.token }
 {
-    let params = params_at(sheet, counter);
-    let part = stands_for(statement, sheet, params, token);
-    let past = params_past(statement, sheet, params, token);
-    let next = past.index;
+    let mut params = params_at(sheet, counter);
+    let part = params.stands_for(token);
+    params.params_past(token);
     Found {
         part: part,
-        counter: next,
+        counter: params.index,
     }
 }
 
-fn find(statement: &[u8], settings: Settings, sheet: &[u8], place: usize, counter: u64) -> Found
-    requires { is_sheet sheet.now ≡ true }
-    ensures value { result ≡ found_at settings statement.now sheet.now place counter }
-    ensures part_inside { PartInside statement.now sheet.now result.part }
+fn find(statement: &[u8], settings: Settings, sheet: Sheet<'_>, place: usize, counter: u64) -> Found
+    ensures value { result ≡ found_at settings statement.now sheet.entry.bytes.now place counter }
+    ensures part_inside { PartInside statement.now sheet.entry.bytes.now result.part }
 {
-    let mut ahead = place;
-    let mut hints = no_hints();
-    let mut cursor = at_start();
-    loop {
-        match next_step(statement, settings, cursor, &mut hints) {
-            Step::Token(token, next) => {
-                if ahead == 0 {
-                    return found_for(statement, sheet, counter, token);
-                }
-                ahead -= 1;
-                cursor = next;
-            }
-            Step::Done => {
-                return nothing_found(counter);
-            }
+    match Tokens::new(statement, settings).nth(place) {
+        Some(token) => {
+            let token = PlacedToken { statement, token };
+            found_for(sheet, counter, token)
         }
+        None => nothing_found(counter),
     }
 }
 
-// The part by its place, with all that a lookup tells.
+// The part by its place, with all that a lookup tells. Counter, number and detail are lent, as every call for Rattle callers has them.
 pub fn lookup_part(
     statement: &[u8],
     dialect: u64,
@@ -81,7 +66,8 @@ pub fn lookup_part(
     ensures detail_after { detail.new ≡ lookup_detail statement.now dialect joins named sheet.now place counter.old }
 {
     match check_with(statement, dialect, joins, named, sheet) {
-        Checked::Accepted(settings) => {
+        Ok(settings) => {
+            let sheet = Sheet { bytes: sheet };
             let found = find(statement, settings, sheet, place, *counter);
             let part = found.part;
             *counter = found.counter;
@@ -89,9 +75,9 @@ pub fn lookup_part(
             *detail = part_length(part) as u64;
             part
         }
-        Checked::Refused(refusal) => {
-            *number = refusal_number(refusal);
-            *detail = refusal_detail(refusal);
+        Err(refusal) => {
+            *number = refusal.number();
+            *detail = refusal.detail();
             Part::Statement { start: 0, len: 0 }
         }
     }

@@ -4,35 +4,55 @@ ghost use Rattle.characters.specs.Utf8.{well_formed};
 ghost use Rattle.params.specs.Sheet.{params_of, count_of, is_named, width, lengths_at, past, place_of, name_at, value_at, bodies_are_utf8, fills_exactly, is_kind_and_count, is_sheet};
 
 use crate::{Lengths, Place, QueryParams};
-use calls::le16_at;
-use characters::{IllFormed, first_ill_formed};
+use calls::le_at;
+use characters::first_ill_formed;
 
-pub fn params_of(sheet: &[u8]) -> QueryParams
+// A value sheet that is well formed.
+#[derive(Clone, Copy)]
+pub struct Sheet<'a> {
+    pub bytes: &'a [u8],
+    pub ghost good: { is_sheet bytes.now ≡ true },
+}
+
+impl<'a> Sheet<'a> {
+    pub fn params(self) -> QueryParams
+        ensures { result ≡ params_of self.entry.bytes.now }
+    {
+        params_of(self.bytes)
+    }
+
+    pub fn count(self) -> usize
+        ensures value { result ≡ count_of self.entry.bytes.now }
+        ensures upper_bound { result < 65536 }
+    {
+        count_of(self.bytes)
+    }
+}
+
+fn params_of(sheet: &[u8]) -> QueryParams
     requires { 0 < length sheet.now }
     ensures { result ≡ params_of sheet.now }
 {
-    if sheet[0] == 1 {
-        return QueryParams::Named;
+    match sheet[0] {
+        1 => QueryParams::Named,
+        2 => QueryParams::Indexed,
+        _ => QueryParams::None,
     }
-    if sheet[0] == 2 {
-        return QueryParams::Indexed;
-    }
-    QueryParams::None
 }
 
-pub fn count_of(sheet: &[u8]) -> usize
+fn count_of(sheet: &[u8]) -> usize
     requires { 2 < length sheet.now }
     ensures value { result ≡ count_of sheet.now }
     ensures upper_bound { result < 65536 }
 {
-    le16_at(sheet, 1)
+    le_at::<2>(sheet, 1)
 }
 
 fn is_named(sheet: &[u8]) -> bool
     requires { 0 < length sheet.now }
     ensures { result ≡ is_named sheet.now }
 {
-    sheet[0] == 1
+    matches!(params_of(sheet), QueryParams::Named)
 }
 
 fn width_of(sheet: &[u8]) -> usize
@@ -46,6 +66,7 @@ fn width_of(sheet: &[u8]) -> usize
     2
 }
 
+// This and `place_past` also serve bytes that are not known to be a sheet yet, so no struct says that the lengths lie inside.
 pub fn lengths_at(sheet: &[u8], place: Place) -> Lengths
     requires { place.lengths + width sheet.now ≤ length sheet.now }
     ensures value { result ≡ lengths_at sheet.now place }
@@ -55,13 +76,13 @@ pub fn lengths_at(sheet: &[u8], place: Place) -> Lengths
     let at = place.lengths;
     if is_named(sheet) {
         return Lengths {
-            name: le16_at(sheet, at),
-            value: le16_at(sheet, at + 2),
+            name: le_at::<2>(sheet, at),
+            value: le_at::<2>(sheet, at + 2),
         };
     }
     Lengths {
         name: 0,
-        value: le16_at(sheet, at),
+        value: le_at::<2>(sheet, at),
     }
 }
 
@@ -93,10 +114,7 @@ pub fn place_past(sheet: &[u8], place: Place) -> Place
 fn is_utf8(bytes: &[u8]) -> bool
     ensures { result ≡ well_formed bytes.now }
 {
-    match first_ill_formed(bytes) {
-        IllFormed::At(_) => false,
-        IllFormed::Nowhere => true,
-    }
+    first_ill_formed(bytes).is_none()
 }
 
 // Both bodies at a place lie inside the sheet and are UTF-8.
@@ -112,10 +130,7 @@ fn has_bodies(sheet: &[u8], place: Place) -> bool
     if sheet.len() < end {
         return false;
     }
-    if is_utf8(&sheet[start..middle]) {
-        return is_utf8(&sheet[middle..end]);
-    }
-    false
+    is_utf8(&sheet[start..middle]) && is_utf8(&sheet[middle..end])
 }
 
 // One look at each entry and at each body's bytes.
@@ -124,17 +139,15 @@ fn bodies_fill(sheet: &[u8]) -> bool
     requires sheet_len_bound { length sheet.now ≤ 65536 }
     ensures { result ≡ (fills_exactly sheet.now && bodies_are_utf8 sheet.now (count_of sheet.now)) }
 {
-    let count = count_of(sheet);
     let mut place = first_place(sheet);
     if sheet.len() < place.body {
         return false;
     }
-    while place.entry < count {
-        if has_bodies(sheet, place) {
-            place = place_past(sheet, place);
-        } else {
+    for _ in 0..count_of(sheet) {
+        if !has_bodies(sheet, place) {
             return false;
         }
+        place = place_past(sheet, place);
     }
     place.body == sheet.len()
 }
@@ -143,13 +156,10 @@ fn is_kind_and_count(sheet: &[u8]) -> bool
     requires { 2 < length sheet.now }
     ensures { result ≡ is_kind_and_count sheet.now }
 {
-    if 2 < sheet[0] {
-        return false;
+    match sheet[0] {
+        0 => count_of(sheet) == 0,
+        kind => kind <= 2,
     }
-    if 1 <= sheet[0] {
-        return true;
-    }
-    count_of(sheet) == 0
 }
 
 pub fn is_sheet(sheet: &[u8]) -> bool
@@ -161,8 +171,5 @@ pub fn is_sheet(sheet: &[u8]) -> bool
     if 65536 < sheet.len() {
         return false;
     }
-    if is_kind_and_count(sheet) {
-        return bodies_fill(sheet);
-    }
-    false
+    is_kind_and_count(sheet) && bodies_fill(sheet)
 }

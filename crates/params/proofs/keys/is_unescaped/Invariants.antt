@@ -1,10 +1,10 @@
-use Prim.Native.Nat.{◌-◌}
-use lib.ListN.{length}
-use Rattle.params.proofs.KeyTexts.{Compared}
+use Rattle.std.proofs.Common.{◌≡◌, length}
+use Rattle.recognisers.specs.Same.{same}
+use Rattle.tokenizer.specs.KeyText.{unescaped}
 use Rattle.params.proofs.keys.is_unescaped.Given as goal
 
-abbrev pub invariant-loop-i : goal.invariant-loop-i
-invariant-loop-i l = Compared l.name l.text l.quote l.i l.j
+abbrev pub invariant-loop-b : goal.invariant-loop-b
+invariant-loop-b l = same l.initial.name (unescaped l.quote l.initial.text) ≡ same l.name (unescaped l.quote l.text)
 
-abbrev pub decreases-loop-i : goal.decreases-loop-i
-decreases-loop-i l = length l.text - l.i
+abbrev pub decreases-loop-b : goal.decreases-loop-b
+decreases-loop-b l = length l.text

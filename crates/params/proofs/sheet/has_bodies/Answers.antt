@@ -7,5 +7,5 @@ returns-then-sheet-end c = search bodies_long
 pub returns-then-is_utf8 : goal.returns-then-is_utf8
 returns-then-is_utf8 c = search value_told
 
-pub returns : goal.returns
-returns c = search name_bad
+pub returns-else-is_utf8 : goal.returns-else-is_utf8
+returns-else-is_utf8 c = search name_bad

@@ -1,7 +1,8 @@
-use mathlib.Core.Path.{refl}
-use Rattle.params.specs.Sheet.{is_named, kind_of}
+use Rattle.params.proofs.SheetContents.{told_named, told_other}
 use Rattle.params.proofs.sheet.is_named.Goals as goal
 
-pub returns : goal.returns
-unfolding is_named kind_of
-returns c = refl
+pub returns-in-Named : goal.returns-in-Named
+returns-in-Named c = search told_named
+
+pub returns-in_default : goal.returns-in_default
+returns-in_default c = search told_other

@@ -10,5 +10,5 @@ returns-then-sheet-gt65536 c = search overlong
 pub returns-then-is_kind_and_count : goal.returns-then-is_kind_and_count
 returns-then-is_kind_and_count c = search sheet_told
 
-pub returns : goal.returns
-returns c = search wrong_kind
+pub returns-else-is_kind_and_count : goal.returns-else-is_kind_and_count
+returns-else-is_kind_and_count c = search wrong_kind

@@ -5,17 +5,17 @@ use Rattle.params.proofs.sheet.lengths_at.Goals as goal
 pub is_named-requires : goal.is_named-requires
 is_named-requires c = search some_sheet
 
-pub le16_at-requires : goal.le16_at-requires
-le16_at-requires c = search named_room
+pub le_at-requires-clause-in_bounds : goal.le_at-requires-clause-in_bounds
+le_at-requires-clause-in_bounds c = search named_room
 
-pub le16_at-requires-then-is_named : goal.le16_at-requires-then-is_named
-le16_at-requires-then-is_named c = search value_room
+pub le_at-requires-then-is_named-clause-in_bounds : goal.le_at-requires-then-is_named-clause-in_bounds
+le_at-requires-then-is_named-clause-in_bounds c = search value_room
 
 pub returns-then-is_named-clause-value : goal.returns-then-is_named-clause-value
 returns-then-is_named-clause-value c = search (named_lengths, rules)
 
-pub le16_at-requires-2 : goal.le16_at-requires-2
-le16_at-requires-2 c = search unnamed_room
+pub le_at-requires-2-clause-in_bounds : goal.le_at-requires-2-clause-in_bounds
+le_at-requires-2-clause-in_bounds c = search unnamed_room
 
 pub returns-clause-value : goal.returns-clause-value
 returns-clause-value c = search (unnamed_lengths, rules)

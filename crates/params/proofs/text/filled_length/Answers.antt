@@ -1,26 +1,27 @@
 use Rattle.std.proofs.Common.{rules}
-use Rattle.tokenizer.proofs.Walks.{count_start, count_fits, count_more, count_end, token_less, token_inside}
-use Rattle.params.proofs.FillWalk.{index_at, turn_at, stands_long, filled_is, filled_fits, token_key}
-use Rattle.recognisers.proofs.Unclosed.{truthful_none, hint_count}
+use Rattle.tokenizer.proofs.Walks.{begun, count_start, count_fits, count_more, count_end, token_inside}
+use Rattle.params.proofs.FillWalk.{long_in, index_in, filled_is, filled_fits}
+use Rattle.params.proofs.TokensInside.{token_key}
 use Rattle.params.proofs.text.filled_length.Goals as goal
 
 pub loop-token-init : goal.loop-token-init
-loop-token-init c = record { known = search truthful_none; walked = (search (count_start, filled_is), search turn_at) }
+loop-token-init c = (search (begun, count_start, filled_is), search rules)
 
-pub length_for-count-requires-clause-key_in_bounds : goal.length_for-count-requires-clause-key_in_bounds
-length_for-count-requires-clause-key_in_bounds c = search (rules, hint_count, token_key, rules, count_fits, filled_fits, stands_long, token_inside, c.requires, token_less, count_end)
+pub invariant_of-placed-clause-text_inside : goal.invariant_of-placed-clause-text_inside
+invariant_of-placed-clause-text_inside c = search token_inside
+
+pub invariant_of-placed-clause-key_inside : goal.invariant_of-placed-clause-key_inside
+invariant_of-placed-clause-key_inside c =
+    token_key c.args.settings c.args.statement.now _ _ _ c.loop-token.invariant.0.rest c.next.ensures.steps c.in-Some.token c.in-Some.is
 
 pub overflow_add-count : goal.overflow_add-count
-overflow_add-count c = search (count_fits, filled_fits, stands_long, token_inside, c.requires)
-
-pub params_past-params-requires-clause-key_in_bounds : goal.params_past-params-requires-clause-key_in_bounds
-params_past-params-requires-clause-key_in_bounds c = search (rules, hint_count, token_key, rules, count_fits, filled_fits, stands_long, token_inside, c.requires, token_less, count_end)
-
-pub loop-token-smaller : goal.loop-token-smaller
-loop-token-smaller c = search token_less
+overflow_add-count c = search (count_fits, filled_fits, long_in, c.requires, c.args.sheet.good, c.loop-token.invariant.0, c.loop-token.invariant.1)
 
 pub loop-token-preserved : goal.loop-token-preserved
-loop-token-preserved c = record { known = search rules; walked = (search (count_more, stands_long, token_inside, index_at), search turn_at) }
+loop-token-preserved c = (
+  search (count_more, long_in, index_in, c.loop-token.invariant.0, c.loop-token.invariant.1),
+  search (rules, c.loop-token.invariant.1),
+)
 
-pub returns-in-Done : goal.returns-in-Done
-returns-in-Done c = search count_end
+pub returns : goal.returns
+returns c = search (count_end, c.loop-token.invariant.0)

@@ -1,13 +1,8 @@
-use Prim.Native.Nat.{◌-◌}
-use lib.ListN.{length}
+use mathlib.Core.Path.{◌≡◌}
 use Rattle.tokenizer.proofs.Walks.{Counted}
 use Rattle.params.specs.Filled.{filled}
-use Rattle.params.proofs.FillWalk.{Turn, fill_walk}
-use Rattle.tokenizer.proofs.Walks.{Going}
+use Rattle.params.proofs.FillWalk.{fill_walk}
 use Rattle.params.proofs.text.filled_length.Given as goal
 
 abbrev pub invariant-loop-token : goal.invariant-loop-token
-invariant-loop-token l = Going l.hints l.statement (Counted (fill_walk l.statement l.sheet) l.settings l.statement (filled l.settings l.statement l.sheet) l.count l.params.index l.cursor × Turn l.sheet l.params)
-
-abbrev pub decreases-loop-token : goal.decreases-loop-token
-decreases-loop-token l = length l.statement - l.cursor.at
+invariant-loop-token l = Counted (fill_walk l.statement l.sheet.bytes.now) l.fn.settings l.statement (filled l.fn.settings l.statement l.sheet.bytes.now) l.count l.params.index l.token-iterator × (l.params.sheet ≡ l.sheet)
