@@ -1,5 +1,6 @@
 -- What is printed of a script is told by how it is cut, and by as much of it as is kept.
 -- Assumes nothing.
+use Rattle.std.specs.Prelude.{Result, Ok, Err}
 use Prim.Native.Nat.{ℕ, ◌+◌, ◌-◌, ◌/◌, ◌≤◌}
 use native.Mathlib.Omega.{arith}
 use mathlib.Core.Path.{◌≡◌, refl, sym, ap, ◌∙◌}
@@ -7,8 +8,6 @@ use mathlib.Core.List.{List, ◌++◌}
 use borrow.Author.Tests.{le-ltb}
 use lib.ListN.{length, take, drop}
 use lib.Seq.{take-append_seam}
-use Rattle.calls.specs.declared.Checked.{Checked}
-use Rattle.calls.specs.declared.Checked.TheVariants.{Accepted, Refused}
 use Rattle.calls.specs.declared.Refusal.{Refusal}
 use Rattle.calls.specs.declared.Refusal.TheVariants.{Overlong, NotUtf8, Setting, TableFull, Sheet, OutputFull, PartsFull}
 use Rattle.calls.specs.declared.Settings.{Settings}
@@ -46,11 +45,11 @@ module _ (s places : List ℕ) (room : 524288 ≤ length places) where
   unfolding cut_checked room_checked
   roomy = go (checked 0 0 0 s) refl
     where
-      go : (c : Checked) → checked 0 0 0 s ≡ c → accepted_or (λ (settings : Settings). room_checked s (length places)) Refused c ≡ c
-      go (Accepted settings) e =
+      go : (c : Result Settings Refusal) → checked 0 0 0 s ≡ c → accepted_or (λ (settings : Settings). room_checked s (length places)) Err c ≡ c
+      go (Ok settings) e =
           let a = accepts 0 0 0 settings s e in
-          rw (le-ltb (length places / 8) (length (parts s)) (omega (arith, a.short, parts_short s, room))) (ap Accepted (sym cutter_is ∙ a.is))
-      go (Refused refusal) e = refl
+          rw (le-ltb (length places / 8) (length (parts s)) (omega (arith, a.short, parts_short s, room))) (ap Ok (sym cutter_is ∙ a.is))
+      go (Err refusal) e = refl
 
   module _ (number : ℕ) (e : number ≡ cut_number (cut_checked s (length places))) where
     told : number ≡ told_number (checked 0 0 0 s)
@@ -60,23 +59,23 @@ module _ (s places : List ℕ) (room : 524288 ≤ length places) where
     unfolding cutting_printed
     refused_printed d = go (checked 0 0 0 s) told
       where
-        go : (c : Checked) → number ≡ told_number c → refused_line number ≡ accepted_or (λ (settings : Settings). parts_printed s (parts s)) refusal_line c
-        go (Accepted settings) f = absurd (d f)
-        go (Refused refusal) f = ap refused_line f
+        go : (c : Result Settings Refusal) → number ≡ told_number c → refused_line number ≡ accepted_or (λ (settings : Settings). parts_printed s (parts s)) refusal_line c
+        go (Ok settings) f = absurd (d f)
+        go (Err refusal) f = ap refused_line f
 
     module _ (z : number ≡ 0) where
       record Taken : Type 0 where
         settings : Settings
-        is : checked 0 0 0 s ≡ Accepted settings
+        is : checked 0 0 0 s ≡ Ok settings
 
       taken : Taken
       taken = go (checked 0 0 0 s) refl told
         where
-          go : (c : Checked) → checked 0 0 0 s ≡ c → number ≡ told_number c → Taken
-          go (Accepted settings) g f = record { settings = settings; is = g }
-          go (Refused refusal) g f = absurd (let k = refusal_some refusal in let w : ⊥ = omega (arith, z, f) in w)
+          go : (c : Result Settings Refusal) → checked 0 0 0 s ≡ c → number ≡ told_number c → Taken
+          go (Ok settings) g f = record { settings = settings; is = g }
+          go (Err refusal) g f = absurd (let k = refusal_some refusal in let w : ⊥ = omega (arith, z, f) in w)
 
-      cut_is : cut_checked s (length places) ≡ Accepted taken.settings
+      cut_is : cut_checked s (length places) ≡ Ok taken.settings
       cut_is = roomy ∙ taken.is
 
       pub script_short : length s ≤ 65536

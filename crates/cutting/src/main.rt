@@ -10,19 +10,12 @@ ghost use Rattle.script.specs.Parts.{parts};
 ghost use Rattle.script.specs.Places.{places_of};
 ghost use Rattle.cutting.specs.Printed.{place_line, part_printed, parts_printed, cutting_printed};
 
-use calls::le32_at;
-use console::{print, print_next, print_number, print_refused, read_text, text_space};
+use calls::le_at;
+use console::{TEXT_SPACE, print, print_next, print_number, print_refused, read_text, zeroed};
 use script::{cut, cutter_settings};
 use std::io;
 use std::io::{Read, Write};
 use token_lines::print_list;
-
-// The place of a part at each byte of the longest script: the places are never full.
-fn place_space() -> [u8; 524288]
-    ensures { 524288 ≡ length result }
-{
-    [0; 524288]
-}
 
 fn print_place<W: Write>(output: &mut W, start: usize, len: usize) -> io::Result<()>
     ensures { OnOk result (Appends (W.contents output.old) (W.contents output.new) (place_line (record { start = start; len = len }))) }
@@ -55,8 +48,8 @@ fn print_parts<W: Write>(
 {
     for i in 0..count {
         let at = i * 8;
-        let start = le32_at(places, at);
-        let len = le32_at(places, at + 4);
+        let start = le_at::<4>(places, at);
+        let len = le_at::<4>(places, at + 4);
         print_part(output, script, start, len)?;
     }
     Ok(())
@@ -79,8 +72,9 @@ fn print_cut<W: Write>(output: &mut W, script: &[u8], places: &mut [u8]) -> io::
 fn answer<R: Read, W: Write>(input: &mut R, output: &mut W) -> io::Result<()>
     ensures { OnOk result (IfSome (R.remaining input.old) (λ script. Appends (W.contents output.old) (W.contents output.new) (cutting_printed script))) }
 {
-    let mut space = text_space();
-    let mut places = place_space();
+    let mut space = zeroed::<TEXT_SPACE>();
+    // The place of a part at each byte of the longest script: the places are never full.
+    let mut places = zeroed::<524288>();
     let n = read_text(input, &mut space)?;
     print_cut(output, &space[..n], &mut places)
 }

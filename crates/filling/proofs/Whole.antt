@@ -3,14 +3,14 @@ use Rattle.std.proofs.Common.{◌≡◌, ℕ, ◌≤◌, ◌<◌, ◌⊎◌, inl
 use Rattle.std.proofs.lemmas.Bool.{cases_lt, lt-ltb, lt-leb}
 use Rattle.calls.specs.Checks.{checked, checked_text}
 use Rattle.calls.specs.Settings.{is_setting}
-use Rattle.calls.specs.declared.Checked.{Checked}
-use Rattle.calls.specs.declared.Checked.TheVariants.{Accepted, Refused}
 use Rattle.console.specs.Printed.{call_printed}
 use Rattle.params.specs.Answers.{checked_with, with_sheet}
 use Rattle.params.specs.Filled.{filled}
 use Rattle.params.specs.Sheet.{is_sheet, is_sheet_length}
 use Rattle.filling.specs.Input.{sheet_of, statement_of}
 use Rattle.filling.specs.Printed.{fill_printed}
+use Rattle.calls.specs.declared.Settings.{Settings}
+use Rattle.calls.specs.declared.Refusal.{Refusal}
 
 -- ---- the statement
 
@@ -34,11 +34,11 @@ no_sheet sheet long = go (leb 3 (length sheet)) refl
     go false e = rw e
 
 module _ (s : List ℕ) (room : ℕ) where
-  without : (sheet front : List ℕ) (c : Checked) → is_sheet sheet ≡ false → is_sheet front ≡ false
+  without : (sheet front : List ℕ) (c : Result Settings Refusal) → is_sheet sheet ≡ false → is_sheet front ≡ false
       → call_printed (λ settings. filled settings s front) room (with_sheet front c) ≡ call_printed (λ settings. filled settings s sheet) room (with_sheet sheet c)
   unfolding call_printed
-  without sheet front (Accepted settings) e f = rw (e, f)
-  without sheet front (Refused refusal) e f = refl
+  without sheet front (Ok settings) e f = rw (e, f)
+  without sheet front (Err refusal) e f = refl
 
   long_sheet : (sheet front : List ℕ) → is_sheet sheet ≡ false → is_sheet front ≡ false → fill_printed s front room ≡ fill_printed s sheet room
   unfolding checked_with

@@ -8,14 +8,14 @@
 // beyond that is read past, since the statement behind it decides whether 1 or 2 comes before the sheet's 5.
 #![tactic(auto)]
 
-ghost use Rattle.std.specs.Prelude.{◌≡◌, ◌≤◌, ◌<◌, Some, IfSome, IfOk, OnOk, length, take, min};
+ghost use Rattle.std.specs.Prelude.{◌≡◌, ◌≤◌, ◌<◌, Some, IfSome, IfOk, OnOk, length, take};
 ghost use Rattle.std.specs.Io.{ReadsAtMost};
 ghost use Rattle.std.specs.Io.KnownBytes.{Appends, Consumes, IsAtEnd};
 ghost use Rattle.filling.specs.Input.{Skips, sheet_of, statement_of};
 ghost use Rattle.filling.specs.Printed.{fill_printed};
 
-use calls::le32_at;
-use console::{print_answer, read_text, text_space};
+use calls::le_at;
+use console::{TEXT_SPACE, print_answer, read_text, zeroed};
 use params::fill;
 use std::io;
 use std::io::{Read, Write};
@@ -32,14 +32,6 @@ fn print_filled<W: Write>(
     print_answer(output, answer, space)
 }
 
-fn least(a: usize, b: usize) -> usize
-    ensures upper_bound { result ≤ a }
-    ensures upper_bound_2 { result ≤ b }
-    ensures value { result ≡ min a b }
-{
-    if a < b { a } else { b }
-}
-
 // Reads at most so many bytes to the start of `space`, where they have the room, and answers how many there were.
 fn read_up_to<R: Read>(input: &mut R, most: usize, space: &mut [u8]) -> io::Result<usize>
     ensures upper_bound { IfOk result (λ n. n ≤ most) }
@@ -47,7 +39,7 @@ fn read_up_to<R: Read>(input: &mut R, most: usize, space: &mut [u8]) -> io::Resu
     ensures bytes { IfOk result (λ n. Consumes (R.remaining input.old) (R.remaining input.new) (take n space.new)) }
     ensures end { IfOk result (λ n. n < most → n < length space.new → IsAtEnd (R.remaining input.new)) }
 {
-    let len = least(most, space.len());
+    let len = most.min(space.len());
     read_text(input, &mut space[..len])
 }
 
@@ -61,7 +53,7 @@ fn read_past_piece<R: Read>(input: &mut R, most: usize) -> io::Result<usize>
     read_up_to(input, most, &mut space)
 }
 
-// Reads past so many bytes, or to the end of the input.
+// Reads past so many bytes, or to the end of the input. A `while`: a turn reads what the input gives.
 fn read_past<R: Read>(input: &mut R, count: usize) -> io::Result<()>
     ensures { OnOk result (Skips (R.remaining input.old) (R.remaining input.new) count) }
 {
@@ -86,25 +78,19 @@ fn read_sheet<R: Read>(input: &mut R, kept: &mut [u8]) -> io::Result<usize>
     if n < 4 {
         return Ok(n);
     }
-    let len = le32_at(kept, 0);
+    let len = le_at::<4>(kept, 0);
     let got = read_up_to(input, len, kept)?;
     read_past(input, len - got)?;
     Ok(got)
-}
-
-fn output_space() -> [u8; 131072]
-    ensures { 131072 ≡ length result }
-{
-    [0; 131072]
 }
 
 fn answer<R: Read, W: Write>(input: &mut R, output: &mut W) -> io::Result<()>
     ensures { OnOk result (IfSome (R.remaining input.old) (λ whole.
         Appends (W.contents output.old) (W.contents output.new) (fill_printed (statement_of whole) (sheet_of whole) 131072))) }
 {
-    let mut sheet = text_space();
-    let mut statement = text_space();
-    let mut space = output_space();
+    let mut sheet = zeroed::<TEXT_SPACE>();
+    let mut statement = zeroed::<TEXT_SPACE>();
+    let mut space = zeroed::<131072>();
     let sheet_len = read_sheet(input, &mut sheet)?;
     let len = read_text(input, &mut statement)?;
     print_filled(output, &statement[..len], &sheet[..sheet_len], &mut space)

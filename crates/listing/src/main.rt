@@ -6,8 +6,8 @@ ghost use Rattle.std.specs.Prelude.{IfSome, OnOk};
 ghost use Rattle.std.specs.Io.KnownBytes.{Appends};
 ghost use Rattle.listing.specs.Printed.{listing_printed};
 
-use calls::{Checked, check};
-use console::{print_refusal, read_text, text_space};
+use calls::check;
+use console::{TEXT_SPACE, print_refusal, read_text, zeroed};
 use std::io;
 use std::io::{Read, Write};
 use token_lines::print_list;
@@ -16,8 +16,8 @@ fn print_listing<W: Write>(output: &mut W, statement: &[u8]) -> io::Result<()>
     ensures { OnOk result (Appends (W.contents output.old) (W.contents output.new) (listing_printed statement.now)) }
 {
     match check(statement, 0, 0, 0) {
-        Checked::Accepted(settings) => print_list(output, statement, settings),
-        Checked::Refused(refusal) => print_refusal(output, refusal),
+        Ok(settings) => print_list(output, statement, settings),
+        Err(refusal) => print_refusal(output, refusal),
     }
 }
 
@@ -25,7 +25,7 @@ fn print_listing<W: Write>(output: &mut W, statement: &[u8]) -> io::Result<()>
 fn answer<R: Read, W: Write>(input: &mut R, output: &mut W) -> io::Result<()>
     ensures { OnOk result (IfSome (R.remaining input.old) (λ statement. Appends (W.contents output.old) (W.contents output.new) (listing_printed statement))) }
 {
-    let mut space = text_space();
+    let mut space = zeroed::<TEXT_SPACE>();
     let n = read_text(input, &mut space)?;
     print_listing(output, &space[..n])
 }

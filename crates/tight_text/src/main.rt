@@ -6,7 +6,7 @@ ghost use Rattle.std.specs.Prelude.{IfSome, OnOk, length};
 ghost use Rattle.std.specs.Io.KnownBytes.{Appends};
 ghost use Rattle.tight_text.specs.Printed.{tight_printed};
 
-use console::{print_answer, read_text, text_space};
+use console::{TEXT_SPACE, print_answer, read_text, zeroed};
 use std::io;
 use std::io::{Read, Write};
 use tight::tighten;
@@ -23,9 +23,9 @@ fn answer<R: Read, W: Write>(input: &mut R, output: &mut W) -> io::Result<()>
     ensures { OnOk result (IfSome (R.remaining input.old) (λ statement.
         Appends (W.contents output.old) (W.contents output.new) (tight_printed statement 65537))) }
 {
-    let mut statement = text_space();
+    let mut statement = zeroed::<TEXT_SPACE>();
     // A tight text is no longer than its statement.
-    let mut space = text_space();
+    let mut space = zeroed::<TEXT_SPACE>();
     let n = read_text(input, &mut statement)?;
     print_tight(output, &statement[..n], &mut space)
 }

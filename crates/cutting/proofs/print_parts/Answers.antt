@@ -12,25 +12,25 @@ loop-i-init g c = ([], Appends-nil _, left_start _ _ _ c.requires.places_value c
 pub overflow_mul-at : goal.overflow_mul-at
 overflow_mul-at g c = record { fits = omega (arith, parts_short c.args.script.now) }
 
-pub le32_at-start-requires : goal.le32_at-start-requires
-le32_at-start-requires g c = omega (arith, place_room _ _ _ _ _ c.loop-i.invariant.2 c.loop-i-test.true)
+pub le_at-start-requires-clause-in_bounds : goal.le_at-start-requires-clause-in_bounds
+le_at-start-requires-clause-in_bounds g c = omega (arith, place_room _ _ _ _ _ c.loop-i.invariant.2 c.loop-i-test.true)
 
 pub overflow_add-at : goal.overflow_add-at
 overflow_add-at g c = record { fits = omega (arith, parts_short c.args.script.now) }
 
-pub le32_at-len-requires : goal.le32_at-len-requires
-le32_at-len-requires g c = omega (arith, place_room _ _ _ _ _ c.loop-i.invariant.2 c.loop-i-test.true)
+pub le_at-len-requires-clause-in_bounds : goal.le_at-len-requires-clause-in_bounds
+le_at-len-requires-clause-in_bounds g c = omega (arith, place_room _ _ _ _ _ c.loop-i.invariant.2 c.loop-i-test.true)
 
 pub print_part-requires : goal.print_part-requires
 print_part-requires g c =
-    place_inside _ _ _ _ _ c.loop-i.invariant.2 c.loop-i-test.true c.requires.script_len_bound _ _ c.le32_at-start.ensures.value c.le32_at-len.ensures.value
+    place_inside _ _ _ _ _ c.loop-i.invariant.2 c.loop-i-test.true c.requires.script_len_bound _ _ c.le_at-start.ensures.value c.le_at-len.ensures.value
 
 pub loop-i-preserved : goal.loop-i-preserved
 loop-i-preserved g c =
     let before = c.loop-i.invariant in (
-      before.0 ++ part_printed c.args.script.now (record { start = c.le32_at-start.result; len = c.le32_at-len.result }),
+      before.0 ++ part_printed c.args.script.now (record { start = c.le_at-start.result; len = c.le_at-len.result }),
       Appends-trans _ _ _ _ _ before.1 c.in_ok-print_part.ensures,
-      left_more _ _ _ _ _ before.2 c.loop-i-test.true c.requires.script_len_bound _ _ c.le32_at-start.ensures.value c.le32_at-len.ensures.value,
+      left_more _ _ _ _ _ before.2 c.loop-i-test.true c.requires.script_len_bound _ _ c.le_at-start.ensures.value c.le_at-len.ensures.value,
     )
 
 pub returns : goal.returns

@@ -10,7 +10,7 @@ returns g c =
     let before = g.W.Write.contents c.args.output.now in
     let after = g.W.Write.contents c.print_listing.new.output in
     let kept = take c.in_ok-n.n c.read_text.new.space in
-    let room : length c.read_text.new.space ≡ 65537 = c.read_text.auto.space ∙ sym c.text_space-space.ensures in
+    let room : length c.read_text.new.space ≡ 65537 = c.read_text.auto.space ∙ sym c.zeroed-space.ensures in
     whole_input _ c.print_listing.result (λ s. Appends before after (listing_printed s)) kept 65537
     (subst (λ m. IfSome (g.R.Read.remaining c.args.input.now) (λ xs. kept ≡ take m xs)) room c.in_ok-n.ensures.text)
     (λ xs shown. subst (Appends before after) (listing_whole xs) shown) c.print_listing.ensures

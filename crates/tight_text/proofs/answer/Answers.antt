@@ -10,8 +10,8 @@ returns g c =
     let before = g.W.Write.contents c.args.output.now in
     let after = g.W.Write.contents c.print_tight.new.output in
     let kept = take c.in_ok-n.n c.read_text.new.space in
-    let room : length c.read_text.new.space ≡ 65537 = c.read_text.auto.space ∙ sym c.text_space-statement.ensures in
+    let room : length c.read_text.new.space ≡ 65537 = c.read_text.auto.space ∙ sym c.zeroed-statement.ensures in
     whole_input _ c.print_tight.result (λ s. Appends before after (tight_printed s 65537)) kept 65537
     (subst (λ m. IfSome (g.R.Read.remaining c.args.input.now) (λ xs. kept ≡ take m xs)) room c.in_ok-n.ensures.text)
     (λ xs shown. subst (Appends before after) (call_whole (λ s settings. tight settings s) 0 0 0 65537 xs) shown)
-    (subst (λ m. OnOk c.print_tight.result (Appends before after (tight_printed kept m))) (sym c.text_space-space.ensures) c.print_tight.ensures)
+    (subst (λ m. OnOk c.print_tight.result (Appends before after (tight_printed kept m))) (sym c.zeroed-space.ensures) c.print_tight.ensures)
