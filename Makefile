@@ -46,8 +46,7 @@ tables: $(build)/tables
 	$(build)/tables crates/characters
 	$(build)/tables sweep > crates/sweep/stdout
 	python3 tools/phrases.py phrases > $(build)/phrases.rt
-	python3 tools/phrases.py tables > $(build)/tables.rt
-	cp $(build)/phrases.rt $(build)/tables.rt crates/reserved/src
+	cp $(build)/phrases.rt crates/reserved/src
 	for file in $$(python3 tools/phrase_proofs.py files); do \
 	    python3 tools/phrase_proofs.py $$file > crates/reserved/proofs/$$file.antt; \
 	done
