@@ -3,7 +3,7 @@
 -- Assumes nothing.
 use Prim.Native.Nat.{ℕ, ◌≤◌, ◌<◌}
 use native.Mathlib.Omega.{arith}
-use mathlib.Core.Path.{◌≡◌, refl, sym}
+use mathlib.Core.Path.{◌≡◌, refl, sym, ◌∙◌}
 use mathlib.Core.Bool.{Bool, true, false, ◌&&◌, ◌||◌, beq, or_assoc, and-eq-true_iff}
 use lib.Dec.{ltb, eqb}
 use borrow.Author.Tests.{ltb-true, ltb-false, ne_eqb}
@@ -14,7 +14,7 @@ use Rattle.characters.specs.Numeric.{numeric}
 use Rattle.characters.specs.Mark.{mark}
 use Rattle.characters.specs.Connector.{connector}
 use Rattle.characters.specs.Classes.{is_whitespace, is_alphabetic, is_numeric, is_mark, is_punctuation_connector, is_alphanumeric, is_word_character, is_placeholder_name_character}
-use Rattle.characters.specs.Ascii.{is_letter, is_space, is_ascii_word}
+use Rattle.characters.specs.Ascii.{is_letter, is_space, is_ascii_word, is_ascii_name}
 use Rattle.characters.proofs.Below.{all_below, below}
 use Rattle.characters.proofs.Within.{above_not}
 
@@ -132,3 +132,14 @@ module _ (c : ℕ) where
       go false e =
           let h = ltb-false c 128 e in
           rw (no_letter c h, no_digit c h, no_other c h 0x2E (omega arith), no_other c h 0x5F (omega arith), no_other c h 0x24 (omega arith))
+
+  pub ascii_name_byte : is_ascii_name c ≡ (ltb c 128 && is_placeholder_name_character c)
+  unfolding is_ascii_name is_ascii_word
+  ascii_name_byte = in_order (is_letter c) (within 0x30 0x39 c) (eqb c 0x2E) (eqb c 0x5F) (eqb c 0x24) ∙ name_byte
+    where
+      in_order : (l d p u s : Bool) → ((l || (d || u)) || (p || s)) ≡ (l || (d || (p || (u || s))))
+      in_order true d p u s = refl
+      in_order false true p u s = refl
+      in_order false false true true s = refl
+      in_order false false true false s = refl
+      in_order false false false u s = refl

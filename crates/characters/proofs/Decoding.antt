@@ -6,13 +6,13 @@ use native.Mathlib.Numerals.{add-one}
 use native.Mathlib.Omega.{arith}
 use mathlib.Core.Path.{◌≡◌, refl, sym, ◌∙◌}
 use mathlib.Core.List.{List, [], ◌∷◌, ◌++◌}
-use mathlib.Core.Bool.{Bool, true, false, cond}
+use mathlib.Core.Bool.{Bool, true, false}
 use lib.ListN.{length, drop, take, get_or, drop_of_length-le, length-drop}
 use lib.Seq.{drop-cons, take-suc, get_or-drop}
-use lib.Dec.{ltb}
 use mir.Syntax.{w8, w32}
 use mir.Val.{Fits}
-use borrow.Author.Tests.{eq-eqb, ne_eqb, ltb-true}
+use borrow.Author.Tests.{eq-eqb, ne_eqb}
+use Rattle.std.proofs.lemmas.Bool.Decides.{nat_tests}
 use Rattle.characters.specs.declared.Character.{Character}
 use Rattle.characters.specs.Character.{is_continuation, continuations, continued, first_bits, with_bits, code_point, character_length, character}
 
@@ -23,25 +23,11 @@ with_bits_last value (a ∷ l) b = with_bits_last (value * 64 + a % 64) l b
 
 first_small : (b : ℕ) → b < 256 → first_bits b < 128
 unfolding first_bits
-first_small b h = go (ltb b 0x80) (ltb b 0xC0) (ltb b 0xE0) (ltb b 0xF0) refl refl refl refl
-  where
-    go : (t u v w : Bool) → ltb b 0x80 ≡ t → ltb b 0xC0 ≡ u → ltb b 0xE0 ≡ v → ltb b 0xF0 ≡ w
-        → cond (ltb b 0x80) b (cond (ltb b 0xC0) 0 (cond (ltb b 0xE0) (b - 0xC0) (cond (ltb b 0xF0) (b - 0xE0) (b - 0xF0)))) < 128
-    go true u v w e f g i = rw e (ltb-true b 0x80 e)
-    go false true v w e f g i = rw (e, f) (omega arith)
-    go false false true w e f g i = rw (e, f, g) (omega arith)
-    go false false false true e f g i = rw (e, f, g, i) (omega arith)
-    go false false false false e f g i = rw (e, f, g, i) (omega arith)
+first_small b h = grind (arith, nat_tests)
 
 at_most_three : (b : ℕ) → continuations b ≤ 3
 unfolding continuations
-at_most_three b = go (ltb b 0xC0) (ltb b 0xE0) (ltb b 0xF0)
-  where
-    go : (t u v : Bool) → cond t 0 (cond u 1 (cond v 2 3)) ≤ 3
-    go true u v = omega arith
-    go false true v = omega arith
-    go false false true = omega arith
-    go false false false = omega arith
+at_most_three b = grind (arith, nat_tests)
 
 short : (s : List ℕ) (i : ℕ) → i + 1 < length s → i < length (drop 1 s)
 short s i h = rw length-drop (omega arith)

@@ -2,9 +2,8 @@
 pub mod Search
 pub mod OrderedRanges
 pub mod Ordered
-pub mod AsciiBlocks
-pub mod SequenceRows
-pub mod FirstIllFormed
+pub mod Sequences
+pub mod LibraryUtf8
 pub mod Below
 pub mod AsciiRule
 pub mod Decoding

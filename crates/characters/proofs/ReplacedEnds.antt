@@ -12,9 +12,8 @@ use borrow.Author.Tests.{le-leb, leb-true, eqb-true}
 use Rattle.characters.specs.Ranges.{within}
 use Rattle.characters.specs.Character.{is_continuation, continuations, continued}
 use Rattle.characters.specs.Utf8.{table_3_7, fits_row, sequence_in, sequence_length, well_formed_from, well_formed}
-use Rattle.characters.proofs.SequenceRows.{Rows, sequence_between}
 use Rattle.characters.proofs.WellFormedSteps.{continuations_grow, continuing, called, all_called, table_called, sequence_whole}
-use Rattle.characters.proofs.FirstIllFormed.{pass, step, stop, ascii_sequence}
+use Rattle.characters.proofs.Sequences.{Rows, pass, step, stop, ascii_sequence, continuation_starts_none}
 
 -- ---- a sequence is told by the bytes that its first byte calls for
 
@@ -62,7 +61,7 @@ sequence_alike b x x' e = rows_alike table_3_7 b x x' table_called e
 -- ---- a well-formed text begins with no continuation byte
 
 starts_formed : (c : ℕ) (y : List ℕ) → well_formed (c ∷ y) ≡ true → is_continuation c ≡ false
-unfolding well_formed is_continuation within table_3_7
+unfolding well_formed is_continuation within
 starts_formed c y w = go (leb 0x80 c) (leb c 0xBF) refl refl
   where
     go : (t u : Bool) → leb 0x80 c ≡ t → leb c 0xBF ≡ u → (t && u) ≡ false
@@ -71,8 +70,7 @@ starts_formed c y w = go (leb 0x80 c) (leb c 0xBF) refl refl
     go true true e f =
         let low = leb-true 0x80 c e in
         let high = leb-true c 0xBF f in
-        let none : 0 ≡ sequence_length (c ∷ y) = sequence_between 1 0xBF refl (c ∷ y) (suc-le-suc zero-le) low high in
-        let w₀ = stop (c ∷ y) (sym none) in
+        let none = stop (c ∷ y) (continuation_starts_none c y low high) in
         let all = leb-true (length (c ∷ y)) (well_formed_from 0 (c ∷ y)) w in
         absurd (let z : ⊥ = omega (arith, all) in z)
 

@@ -88,9 +88,6 @@ module _ (class : Class) where
 
   -- ---- the loop
 
-  pub run_start : (s : List ℕ) → RunAt class s 0
-  run_start s = record { inside = zero-le; same = sym (zero-add (run (in_class class) 0 s)) }
-
   end_outside : in_class class (code_point []) ≡ false
   unfolding code_point in_class
   end_outside = go class

@@ -14,7 +14,7 @@ use Rattle.characters.specs.Runs.{run}
 use Rattle.characters.specs.Utf8.{sequence_length, well_formed_from, well_formed}
 use Rattle.characters.proofs.Within.{below_not}
 use Rattle.characters.proofs.WellFormedSteps.{sequence_whole, well_formed_step}
-use Rattle.characters.proofs.FirstIllFormed.{pass, step, stop, sequence_inside}
+use Rattle.characters.proofs.Sequences.{pass, step, stop, sequence_inside}
 
 pub end_formed : well_formed [] ≡ true
 unfolding well_formed well_formed_from

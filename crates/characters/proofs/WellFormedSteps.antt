@@ -5,7 +5,7 @@
 --     ascii_outside          no byte of a character after its first is ASCII, on any bytes
 --     ill_formed_nowhere     a text has no first ill-formed sequence exactly where it is well formed
 -- Assumes nothing.
-use Prim.Native.Nat.{ℕ, zero, suc, ◌≤◌, ◌<◌, zero-le}
+use Prim.Native.Nat.{ℕ, zero, suc, ◌≤◌, ◌<◌}
 use native.Mathlib.Nat.{le_trans, le_of_suc-le-suc, not-suc-le-zero}
 use native.Mathlib.Omega.{arith}
 use mathlib.Core.Path.{◌≡◌, refl, sym, ap, ◌∙◌}
@@ -14,36 +14,20 @@ use mathlib.Core.List.{List, [], ◌∷◌}
 use mathlib.Core.Bool.{Bool, true, false, cond, ◌&&◌, false≢true, and-eq-true_iff}
 use lib.ListN.{length, drop, get_or, length-drop}
 use lib.Dec.{ltb, leb, eqb}
-use borrow.Author.Tests.{le-ltb, le-leb, leb-true, ltb-true, ltb-false, eqb-true}
+use borrow.Author.Tests.{le-ltb, le-leb, leb-true, ltb-false, eqb-true}
 use Rattle.std.specs.declared.option.Option.TheVariants.{Some, None}
+use Rattle.std.proofs.lemmas.Bool.Decides.{nat_tests}
 use Rattle.characters.specs.Ranges.{within}
 use Rattle.characters.specs.Utf8.{table_3_7, fits_row, sequence_in, sequence_length, well_formed_from, first_ill_formed, well_formed}
 use Rattle.characters.specs.Character.{is_continuation, continuations, continued, character_length}
 use Rattle.characters.proofs.Within.{within_low, within_high, within_is}
-use Rattle.characters.proofs.SequenceRows.{Rows}
-use Rattle.characters.proofs.FirstIllFormed.{sequence_inside, step, stop}
+use Rattle.characters.proofs.Sequences.{Rows, sequence_inside, step, stop}
 
 -- ---- first bytes and continuation bytes
 
 pub continuations_grow : (a b : ℕ) → a ≤ b → continuations a ≤ continuations b
 unfolding continuations
-continuations_grow a b h = go (ltb a 0xC0) (ltb a 0xE0) (ltb a 0xF0) (ltb b 0xC0) (ltb b 0xE0) (ltb b 0xF0) refl refl refl refl refl refl
-  where
-    apart : {P : Type 0} (k : ℕ) → ltb a k ≡ false → ltb b k ≡ true → P
-    apart k e f = absurd (let x = ltb-false a k e in let y = ltb-true b k f in let z : ⊥ = omega arith in z)
-
-    go : (t u v t' u' v' : Bool) → ltb a 0xC0 ≡ t → ltb a 0xE0 ≡ u → ltb a 0xF0 ≡ v → ltb b 0xC0 ≡ t' → ltb b 0xE0 ≡ u' → ltb b 0xF0 ≡ v'
-        → cond t 0 (cond u 1 (cond v 2 3)) ≤ cond t' 0 (cond u' 1 (cond v' 2 3))
-    go true u v t' u' v' e f g e' f' g' = zero-le
-    go false u v true u' v' e f g e' f' g' = apart 0xC0 e e'
-    go false true v false true v' e f g e' f' g' = omega arith
-    go false true v false false true e f g e' f' g' = omega arith
-    go false true v false false false e f g e' f' g' = omega arith
-    go false false v false true v' e f g e' f' g' = apart 0xE0 f f'
-    go false false true false false true e f g e' f' g' = omega arith
-    go false false true false false false e f g e' f' g' = omega arith
-    go false false false false false true e f g e' f' g' = apart 0xF0 g g'
-    go false false false false false false e f g e' f' g' = omega arith
+continuations_grow a b h = grind (arith, nat_tests)
 
 -- every range of the row holds continuation bytes only
 abbrev pub continuing : List (ℕ × ℕ) → Bool

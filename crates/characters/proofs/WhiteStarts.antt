@@ -9,18 +9,14 @@ use mathlib.Core.List.{List, [], ◌∷◌}
 use mathlib.Core.Bool.{Bool, true, false, cond, ◌&&◌, and-eq-true_iff}
 use lib.Dec.{leb, ltb, eqb}
 use borrow.Author.Tests.{leb-true, ltb-true, ltb-false, lt-ltb, le-ltb}
-use Rattle.characters.specs.Ranges.{within, in_ranges}
+use Rattle.characters.specs.Ranges.{in_ranges}
 use Rattle.characters.specs.WhiteSpace.{white_space}
 use Rattle.characters.specs.Classes.{is_whitespace}
 use Rattle.characters.specs.Character.{is_continuation, continuations, continued, first_bits, with_bits, code_point}
-use Rattle.characters.proofs.ClassesApart.{outside}
+use Rattle.characters.proofs.ClassesApart.{outside, zero_not_white}
 use Rattle.characters.proofs.Within.{within_is, above_not}
 
 -- ---- numbers that are no whitespace
-
-nought_not_white : is_whitespace 0 ≡ false
-unfolding is_whitespace in_ranges within white_space
-nought_not_white = refl
 
 -- no range ends above n
 abbrev all_up_to : ℕ → List (ℕ × ℕ) → Bool
@@ -52,7 +48,7 @@ module _ (b : ℕ) where
   -- none: a continuation byte
   pub white_none : (s : List ℕ) → 0x80 ≤ b → b < 0xC0 → is_whitespace (code_point (b ∷ s)) ≡ false
   unfolding code_point continuations continued first_bits with_bits
-  white_none s h l = rw (lt-ltb b 0xC0 l, le-ltb b 0x80 h) nought_not_white
+  white_none s h l = rw (lt-ltb b 0xC0 l, le-ltb b 0x80 h) zero_not_white
 
   -- one
   module _ (h : 0xC0 ≤ b) (l : b < 0xE0) (n : b ≡ 0xC0 → ⊥) (m : b ≡ 0xC2 → ⊥) where
@@ -74,50 +70,50 @@ module _ (b : ℕ) where
 
     pub white_two : (s : List ℕ) → is_whitespace (code_point (b ∷ s)) ≡ false
     unfolding code_point continuations continued first_bits with_bits
-    white_two [] = rw (le-ltb b 0xC0 h, lt-ltb b 0xE0 l) nought_not_white
+    white_two [] = rw (le-ltb b 0xC0 h, lt-ltb b 0xE0 l) zero_not_white
     white_two (x ∷ s) = rw (le-ltb b 0xC0 h, lt-ltb b 0xE0 l, le-ltb b 0x80 (omega arith)) (go (is_continuation x))
       where
         go : (t : Bool) → is_whitespace (cond (eqb (cond t 1 0) 1) ((b - 0xC0) * 64 + x % 64) 0) ≡ false
         go true = two_value x
-        go false = nought_not_white
+        go false = zero_not_white
 
   -- two
   module _ (h : 0xE3 < b) (l : b < 0xF0) where
     pub white_three : (s : List ℕ) → is_whitespace (code_point (b ∷ s)) ≡ false
     unfolding code_point continuations continued first_bits with_bits
-    white_three [] = rw (le-ltb b 0xC0 (omega arith), le-ltb b 0xE0 (omega arith), lt-ltb b 0xF0 l) nought_not_white
+    white_three [] = rw (le-ltb b 0xC0 (omega arith), le-ltb b 0xE0 (omega arith), lt-ltb b 0xF0 l) zero_not_white
     white_three (x ∷ []) = rw (le-ltb b 0xC0 (omega arith), le-ltb b 0xE0 (omega arith), lt-ltb b 0xF0 l) (go (is_continuation x) _)
       where
         go : (t : Bool) (value : ℕ) → is_whitespace (cond (eqb (cond t 1 0) 2) value 0) ≡ false
-        go true value = nought_not_white
-        go false value = nought_not_white
+        go true value = zero_not_white
+        go false value = zero_not_white
     white_three (x ∷ y ∷ s) = rw (le-ltb b 0xC0 (omega arith), le-ltb b 0xE0 (omega arith), lt-ltb b 0xF0 l, le-ltb b 0x80 (omega arith)) (go (is_continuation x) (is_continuation y))
       where
         go : (t u : Bool) → is_whitespace (cond (eqb (cond t (suc (cond u 1 0)) 0) 2) (((b - 0xE0) * 64 + x % 64) * 64 + y % 64) 0) ≡ false
         go true true = high_not_white _ (omega (arith, h))
-        go true false = nought_not_white
-        go false u = nought_not_white
+        go true false = zero_not_white
+        go false u = zero_not_white
 
   -- three
   module _ (h : 0xF0 < b) where
     pub white_four : (s : List ℕ) → is_whitespace (code_point (b ∷ s)) ≡ false
     unfolding code_point continuations continued first_bits with_bits
-    white_four [] = rw (le-ltb b 0xC0 (omega arith), le-ltb b 0xE0 (omega arith), le-ltb b 0xF0 (omega arith)) nought_not_white
+    white_four [] = rw (le-ltb b 0xC0 (omega arith), le-ltb b 0xE0 (omega arith), le-ltb b 0xF0 (omega arith)) zero_not_white
     white_four (x ∷ []) = rw (le-ltb b 0xC0 (omega arith), le-ltb b 0xE0 (omega arith), le-ltb b 0xF0 (omega arith)) (go (is_continuation x) _)
       where
         go : (t : Bool) (value : ℕ) → is_whitespace (cond (eqb (cond t 1 0) 3) value 0) ≡ false
-        go true value = nought_not_white
-        go false value = nought_not_white
+        go true value = zero_not_white
+        go false value = zero_not_white
     white_four (x ∷ y ∷ []) = rw (le-ltb b 0xC0 (omega arith), le-ltb b 0xE0 (omega arith), le-ltb b 0xF0 (omega arith)) (go (is_continuation x) (is_continuation y) _)
       where
         go : (t u : Bool) (value : ℕ) → is_whitespace (cond (eqb (cond t (suc (cond u 1 0)) 0) 3) value 0) ≡ false
-        go true true value = nought_not_white
-        go true false value = nought_not_white
-        go false u value = nought_not_white
+        go true true value = zero_not_white
+        go true false value = zero_not_white
+        go false u value = zero_not_white
     white_four (x ∷ y ∷ z ∷ s) = rw (le-ltb b 0xC0 (omega arith), le-ltb b 0xE0 (omega arith), le-ltb b 0xF0 (omega arith), le-ltb b 0x80 (omega arith)) (go (is_continuation x) (is_continuation y) (is_continuation z))
       where
         go : (t u v : Bool) → is_whitespace (cond (eqb (cond t (suc (cond u (suc (cond v 1 0)) 0)) 0) 3) ((((b - 0xF0) * 64 + x % 64) * 64 + y % 64) * 64 + z % 64) 0) ≡ false
         go true true true = high_not_white _ (omega (arith, h))
-        go true true false = nought_not_white
-        go true false v = nought_not_white
-        go false u v = nought_not_white
+        go true true false = zero_not_white
+        go true false v = zero_not_white
+        go false u v = zero_not_white

@@ -14,3 +14,7 @@ is_space c = within 9 13 c || eqb c 32
 -- a word character: a letter, a digit, the underscore
 unfoldable pub is_ascii_word : ℕ → Bool
 is_ascii_word c = is_letter c || (within 0x30 0x39 c || eqb c 0x5F)
+
+-- a placeholder-name character: a word character, `.`, `$`
+unfoldable pub is_ascii_name : ℕ → Bool
+is_ascii_name c = is_ascii_word c || (eqb c 0x2E || eqb c 0x24)

@@ -11,6 +11,7 @@ fn is_continuation(b: u8) -> bool
     matches!(b, 0x80..=0xBF)
 }
 
+// Unicode's table 3-6: a value for each range of first bytes.
 #[tactic(auto, using(std::proofs::lemmas::Bool::Decides::nat_tests), unfolding(crate::specs::Character::continuations))]
 fn continuations_of(first: u8) -> usize
     ensures { result ≡ continuations first }
@@ -23,20 +24,23 @@ fn continuations_of(first: u8) -> usize
     }
 }
 
+// The same table: what a row's first byte has beside its mark.
 #[tactic(auto, using(std::proofs::lemmas::Bool::Decides::nat_tests), unfolding(crate::specs::Character::first_bits))]
 fn first_bits(first: u8) -> u32
     ensures { result ≡ first_bits first }
 {
-    match first {
-        0x00..=0x7F => u32::from(first),
+    u32::from(match first {
+        0x00..=0x7F => first,
         0x80..=0xBF => 0,
-        0xC0..=0xDF => u32::from(first - 0xC0),
-        0xE0..=0xEF => u32::from(first - 0xE0),
-        0xF0..=0xFF => u32::from(first - 0xF0),
-    }
+        0xC0..=0xDF => first - 0xC0,
+        0xE0..=0xEF => first - 0xE0,
+        0xF0..=0xFF => first - 0xF0,
+    })
 }
 
-// The character at the start of some bytes.
+// The character at the start of some bytes. Total, as its definition: no Option, since what is no character is in no class. (Its bytes by
+// number: where one fails, that is the length.)
+#[tactic(auto, using(crate::proofs::Decoding::decode_start, crate::proofs::Decoding::decode_shift, crate::proofs::Decoding::decode_add, crate::proofs::Decoding::decode_stop, crate::proofs::Decoding::decode_cut, crate::proofs::Decoding::decode_end))]
 fn first_character(bytes: &[u8]) -> Character
     requires { 0 < length bytes.now }
     ensures { result ≡ character bytes.now }
@@ -45,13 +49,15 @@ fn first_character(bytes: &[u8]) -> Character
     let wanted = continuations_of(first);
     let mut code_point = first_bits(first);
     for i in 0..wanted {
-        if bytes.len() <= i + 1 || !is_continuation(bytes[i + 1]) {
-            return Character {
-                code_point: 0,
-                len: i + 1,
-            };
+        match bytes.get(i + 1) {
+            Some(&b) if is_continuation(b) => code_point = code_point * 64 + u32::from(b % 64),
+            _ => {
+                return Character {
+                    code_point: 0,
+                    len: i + 1,
+                };
+            }
         }
-        code_point = code_point * 64 + u32::from(bytes[i + 1] % 64);
     }
     Character {
         code_point,
@@ -60,6 +66,7 @@ fn first_character(bytes: &[u8]) -> Character
 }
 
 // The character at a place of a text; past the text's end it has no bytes.
+#[tactic(auto, using(crate::proofs::Decoding::decode_past))]
 pub fn character_at(text: &[u8], at: usize) -> Character
     ensures { result ≡ character (drop at text.now) }
 {

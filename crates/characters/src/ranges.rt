@@ -2,6 +2,7 @@
 ghost use Rattle.std.specs.Prelude.{◌≡◌, true};
 ghost use Rattle.characters.specs.Ranges.{within, in_ranges, ordered};
 
+#[tactic(auto, unfolding(crate::specs::Ranges::within))]
 pub fn within(first: u32, last: u32, c: u32) -> bool
     ensures { result ≡ within first last c }
 {

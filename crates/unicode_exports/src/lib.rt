@@ -1,4 +1,4 @@
-// The functions of `unicode` for tests and benchmarks that are written in Rust: they link libunicode_exports.a. The
+// The functions of `characters` for tests and benchmarks that are written in Rust, one by one: they link libunicode_exports.a. The
 // product's own boundary is another crate.
 #![tactic(auto)]
 
@@ -15,20 +15,20 @@ pub extern "C" fn unicode_first_ill_formed(text: &[u8]) -> usize
     characters::first_ill_formed(text).unwrap_or(text.len())
 }
 
+#[tactic(auto, unfolding(characters::specs::Character::character))]
 #[unsafe(no_mangle)]
 pub extern "C" fn unicode_code_point(text: &[u8], at: usize) -> u32
     ensures { result ≡ code_point (drop at text.now) }
 {
-    let c = characters::character_at(text, at);
-    c.code_point
+    characters::character_at(text, at).code_point
 }
 
+#[tactic(auto, unfolding(characters::specs::Character::character))]
 #[unsafe(no_mangle)]
 pub extern "C" fn unicode_character_length(text: &[u8], at: usize) -> usize
     ensures { result ≡ character_length (drop at text.now) }
 {
-    let c = characters::character_at(text, at);
-    c.len
+    characters::character_at(text, at).len
 }
 
 #[unsafe(no_mangle)]
