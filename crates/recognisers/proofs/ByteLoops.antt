@@ -1,7 +1,7 @@
 -- Loops over the bytes at the start of a rest.
 -- Assumes nothing.
 use Prim.Native.Nat.{ℕ, zero, suc, ◌+◌, ◌≤◌, ◌<◌, min, zero-le, suc-le-suc}
-use native.Mathlib.Nat.{suc_inj, le_of_suc-le-suc, not-suc-le-zero, min-zero, zero-min, suc-min-suc, min-le_left}
+use native.Mathlib.Nat.{suc_inj, le_of_suc-le-suc, not-suc-le-zero, min-zero, zero-min, suc-min-suc}
 use native.Mathlib.Numerals.{add-one}
 use native.Mathlib.Omega.{arith}
 use mathlib.Core.Path.{◌≡◌, refl, sym, ap, ◌∙◌}
@@ -39,9 +39,6 @@ first_long k s h = sym (length-take-le k s h)
 
 -- the first few of them
 module _ (k : ℕ) (s : List ℕ) (n : ℕ) (e : n ≡ min (length s) k) where
-  pub few_long : n ≡ length (take n s)
-  few_long = first_long n s (rw e (min-le_left (length s) k))
-
   pub count_few : (test : ℕ → Bool) (r : ℕ) → r ≡ count test (take n s) → r ≡ min (count test s) k
   count_few test r f = f ∙ (count_take test n s ∙ (let h = count_inside test s in let z : min (count test s) n ≡ min (count test s) k = omega arith in z))
 
@@ -63,9 +60,6 @@ module _ (s : List ℕ) (b : ℕ) where
   pub record AmongAt (i : ℕ) : Type 0 where
     pub inside : i ≤ length s
     pub same : contains (drop i s) b ≡ contains s b
-
-  pub among_start : AmongAt 0
-  among_start = record { inside = zero-le; same = refl }
 
   module _ (i : ℕ) (at : AmongAt i) where
     pub among_here : i < length s → b ≡ get_or s i 0 → true ≡ contains s b

@@ -18,7 +18,7 @@ use Rattle.recognisers.specs.Taking.{Taker, taken, more, contains, starts_with}
 use Rattle.recognisers.specs.Strings.{take_till_escaping, closed_by}
 use Rattle.recognisers.proofs.Spelling.{more_more}
 use Rattle.recognisers.proofs.TakenInside.{Inside}
-use Rattle.recognisers.proofs.CommentLoops.{PassedAt, passed_start, passed_more}
+use Rattle.recognisers.proofs.CommentLoops.{PassedAt, passed_more}
 
 -- the byte that stands at the start, so something does
 pub starts_some : (d : ℕ) (s : List ℕ) → starts_with d s ≡ true → 0 < length s
@@ -29,9 +29,6 @@ starts_some d (c ∷ s) e = suc-le-suc zero-le
 module _ (d : ℕ) (esc : List ℕ) where
   abbrev till : Taker
   till = take_till_escaping d esc false
-
-  pub quote_start : (s : List ℕ) → PassedAt till s 0
-  quote_start s = passed_start till s
 
   module _ (s : List ℕ) (i : ℕ) (r : Bool) (at : PassedAt till s i) (h : i < length s) (c : r ≡ (starts_with d (drop (i + 1) s) && contains esc (get_or s i 0))) where
     pair : r ≡ (contains esc (get_or s i 0) && starts_with d (drop (suc i) s))

@@ -1,8 +1,8 @@
 -- How many quotes are escaped: the loop that counts them, how many there can be, and that the token's value alone tells it.
 -- Assumes nothing.
 use Rattle.std.proofs.Common.{Option, Some, None}
-use Prim.Native.Nat.{ℕ, suc, ◌+◌, ◌-◌, ◌*◌, ◌^◌, ◌≤◌, ◌<◌, zero-le}
-use native.Mathlib.Nat.{add-zero, zero-add}
+use Prim.Native.Nat.{ℕ, suc, ◌+◌, ◌-◌, ◌*◌, ◌≤◌, ◌<◌, zero-le}
+use native.Mathlib.Nat.{add-zero}
 use native.Mathlib.Numerals.{add-one, add-two}
 use native.Mathlib.Omega.{arith}
 use mathlib.Core.Path.{◌≡◌, refl, sym, ap, ◌∙◌}
@@ -12,8 +12,6 @@ use lib.ListN.{length, drop, take, get_or, drop_of_length-le, length-drop}
 use lib.Seq.{drop-cons}
 use lib.Dec.{eqb}
 use borrow.Author.Tests.{eq-eqb, ne_eqb}
-use mir.Syntax.{w64}
-use mir.Val.{Fits}
 use Rattle.characters.proofs.Rests.{part_end}
 use Rattle.recognisers.specs.declared.Dialect.{Dialect}
 use Rattle.recognisers.specs.declared.TokenKind.TheVariants.{String}
@@ -42,9 +40,6 @@ module _ (d : ℕ) (esc : List ℕ) where
     pub inside : i ≤ length s
     pub few : pairs ≤ i
     pub same : passed s ≡ pairs + passed (drop i s)
-
-  pub pairs_start : (s : List ℕ) → PairsAt s 0 0
-  pairs_start s = record { inside = zero-le; few = zero-le; same = sym (zero-add (passed s)) }
 
   module _ (s : List ℕ) (pairs i : ℕ) (r : Bool) (at : PairsAt s pairs i) (h : i < length s) (c : r ≡ (starts_with d (drop (i + 1) s) && contains esc (get_or s i 0))) where
     pair : r ≡ (contains esc (get_or s i 0) && starts_with d (drop (suc i) s))
@@ -83,17 +78,11 @@ module _ (d : ℕ) (esc : List ℕ) where
   unfolding pairs_passed
   pairs_none s pairs i at h = sym (at.same ∙ rw (drop_of_length-le s h) (add-zero pairs))
 
-  pub pairs_fit : (s : List ℕ) (pairs i : ℕ) → PairsAt s pairs i → i < length s → length s < 2 ^ 64 → Fits w64 (pairs + 1)
-  pairs_fit s pairs i at h l = record { fits = omega (arith, at.few) }
-
   -- ---- behind an opener
 
   pub behind_short : (v : List ℕ) (n : ℕ) → length v < n → 0 ≡ pairs_behind n d esc v
   unfolding pairs_passed
   behind_short v n h = let k : length v ≤ n = omega arith in rw (drop_of_length-le v k)
-
-  pub behind_rest : (v : List ℕ) (n q : ℕ) → q ≡ passed (take (length v - n) (drop n v)) → q ≡ pairs_behind n d esc v
-  behind_rest v n q e = e ∙ ap passed (part_end v n)
 
   -- ---- a pair takes two bytes
 

@@ -21,13 +21,13 @@ use Rattle.characters.proofs.Within.{within_low, within_high}
 use Rattle.recognisers.specs.declared.Piece.{Piece}
 use Rattle.recognisers.specs.declared.Dialect.{Dialect}
 use Rattle.recognisers.specs.declared.Dialect.TheVariants.{Generic, PostgreSql, SQLServer}
-use Rattle.recognisers.specs.declared.TokenKind.TheVariants.{LineComment, BlockComment, OpenParen, CloseParen}
+use Rattle.recognisers.specs.declared.TokenKind.TheVariants.{LineComment, BlockComment, TypeSpecifier, OpenParen, CloseParen}
 use Rattle.recognisers.specs.Text.{bytes}
 use Rattle.recognisers.specs.Taking.{Taker, more, or, done, one, spelled, typed, capital, literal, caseless, blanks, end_of_word, is_digit, count, digit1, contains, starts_with, starts_among}
 use Rattle.recognisers.specs.Pieces.{token_of, alt}
 use Rattle.recognisers.specs.Comment.{till_line_ending, through_block_end, get_comment_token}
 use Rattle.recognisers.specs.TypeSpecifier.{get_type_specifier_token}
-use Rattle.recognisers.specs.Strings.{hex_taken, quoted_taken, string_taken, get_string_token}
+use Rattle.recognisers.specs.Strings.{hex_taken, quoted_taken, string_taken, placeholder_quoted_taken, placeholder_string_taken}
 use Rattle.recognisers.specs.Parens.{in_postgre_sql, get_open_paren_token, get_close_paren_token}
 use Rattle.recognisers.specs.Words.{get_whitespace_token}
 use Rattle.recognisers.specs.Number.{decimal_number, scientific_notation, unsigned, get_number_token}
@@ -69,10 +69,6 @@ module _ (ks : List ℕ) (b : ℕ) (n : contains ks b ≡ false) where
       go : (t : Bool) → within 0x61 0x7A b ≡ t → eqb (cond t (b - 0x20) b) k ≡ false
       go true w = low w (eqb (b - 0x20) k) refl
       go false w = none_of k c
-
--- the byte at the start
-pub stands_first : (s : List ℕ) (k : ℕ) (p t : Bool) → p ≡ starts_with k (drop 0 s) → p ≡ t → starts_with k s ≡ t
-stands_first s k p t e q = sym e ∙ q
 
 -- an opener of one byte
 pub opened : (k : ℕ) (then : Taker) (s : List ℕ) (r : Option ℕ) → starts_with k s ≡ true → r ≡ more 1 (then (drop 1 s)) → r ≡ literal (k ∷ []) then s
@@ -143,17 +139,29 @@ no_specifier_cons false b s n = refl
 
 -- ---- strings
 
-no_string_cons : (dialect : Dialect) (b : ℕ) (s : List ℕ) → contains (bytes "'\"`[NExX") b ≡ false → None ≡ get_string_token dialect (b ∷ s)
-unfolding get_string_token string_taken quoted_taken hex_taken spelled one typed contains
+no_string_cons : (dialect : Dialect) (b : ℕ) (s : List ℕ) → contains (bytes "'\"`[NExX") b ≡ false → None ≡ string_taken dialect (b ∷ s)
+unfolding string_taken quoted_taken hex_taken spelled one typed contains
 no_string_cons dialect b s n = go dialect
   where
     no : (k : ℕ) → contains (bytes "'\"`[NExX") k ≡ true → eqb b k ≡ false
     no = none_of (bytes "'\"`[NExX") b n
 
-    go : (d : Dialect) → None ≡ get_string_token d (b ∷ s)
+    go : (d : Dialect) → None ≡ string_taken d (b ∷ s)
     go Generic = rw (no 96 refl, no 34 refl, no 39 refl, no 78 refl, no 69 refl, no 120 refl, no 88 refl)
     go PostgreSql = rw (no 96 refl, no 34 refl, no 39 refl, no 78 refl, no 69 refl, no 120 refl, no 88 refl)
     go SQLServer = rw (no 96 refl, no 91 refl, no 34 refl, no 39 refl, no 78 refl, no 69 refl, no 120 refl, no 88 refl)
+
+no_named_cons : (dialect : Dialect) (b : ℕ) (s : List ℕ) → contains (bytes "'\"`[N") b ≡ false → None ≡ placeholder_string_taken dialect (b ∷ s)
+unfolding placeholder_string_taken placeholder_quoted_taken spelled one typed contains
+no_named_cons dialect b s n = go dialect
+  where
+    no : (k : ℕ) → contains (bytes "'\"`[N") k ≡ true → eqb b k ≡ false
+    no = none_of (bytes "'\"`[N") b n
+
+    go : (d : Dialect) → None ≡ placeholder_string_taken d (b ∷ s)
+    go Generic = rw (no 96 refl, no 34 refl, no 39 refl, no 78 refl)
+    go PostgreSql = rw (no 96 refl, no 34 refl, no 39 refl, no 78 refl)
+    go SQLServer = rw (no 96 refl, no 91 refl, no 34 refl, no 39 refl, no 78 refl)
 
 -- ---- parens
 
@@ -237,12 +245,19 @@ open_square_left Generic (b ∷ s) e = rw (eqb-true b 91 e)
 open_square_left PostgreSql (b ∷ s) e = rw (eqb-true b 91 e)
 open_square_left SQLServer (b ∷ s) e = rw (eqb-true b 91 e)
 
-open_left : (dialect : Dialect) (s : List ℕ) → starts_with 91 s ≡ false → token_of OpenParen (or (literal (bytes "(") done s) (caseless (bytes "CASE") end_of_word s)) ≡ get_open_paren_token dialect s
+open_round_left : (dialect : Dialect) (s : List ℕ) → starts_with 40 s ≡ true → token_of OpenParen (Some 1) ≡ get_open_paren_token dialect s
 unfolding starts_with get_open_paren_token spelled one typed
-open_left Generic s e = refl
-open_left SQLServer s e = refl
-open_left PostgreSql [] e = refl
-open_left PostgreSql (b ∷ s) e = rw e
+open_round_left dialect [] e = absurd (false≢true e)
+open_round_left dialect (b ∷ s) e = rw (eqb-true b 40 e)
+
+open_left : (dialect : Dialect) (s : List ℕ) → starts_with 40 s ≡ false → starts_with 91 s ≡ false → token_of OpenParen (caseless (bytes "CASE") end_of_word s) ≡ get_open_paren_token dialect s
+unfolding starts_with get_open_paren_token spelled one typed
+open_left Generic [] e f = refl
+open_left PostgreSql [] e f = refl
+open_left SQLServer [] e f = refl
+open_left Generic (b ∷ s) e f = rw e
+open_left PostgreSql (b ∷ s) e f = rw (e, f)
+open_left SQLServer (b ∷ s) e f = rw e
 
 close_square_left : (dialect : Dialect) (s : List ℕ) → starts_with 93 s ≡ true → token_of CloseParen (in_postgre_sql dialect (literal (bytes "]") done) s) ≡ get_close_paren_token dialect s
 unfolding starts_with get_close_paren_token spelled one typed capital within
@@ -251,86 +266,141 @@ close_square_left Generic (b ∷ s) e = rw (eqb-true b 93 e)
 close_square_left PostgreSql (b ∷ s) e = rw (eqb-true b 93 e)
 close_square_left SQLServer (b ∷ s) e = rw (eqb-true b 93 e)
 
-close_left : (dialect : Dialect) (s : List ℕ) → starts_with 93 s ≡ false
-    → token_of CloseParen (or (literal (bytes ")") done s) (or (caseless (bytes "END") (blanks (caseless (bytes "CASE") end_of_word)) s) (caseless (bytes "END") end_of_word s))) ≡ get_close_paren_token dialect s
+close_round_left : (dialect : Dialect) (s : List ℕ) → starts_with 41 s ≡ true → token_of CloseParen (Some 1) ≡ get_close_paren_token dialect s
 unfolding starts_with get_close_paren_token spelled one typed
-close_left Generic s e = refl
-close_left SQLServer s e = refl
-close_left PostgreSql [] e = refl
-close_left PostgreSql (b ∷ s) e = rw e
+close_round_left dialect [] e = absurd (false≢true e)
+close_round_left dialect (b ∷ s) e = rw (eqb-true b 41 e)
+
+close_left : (dialect : Dialect) (s : List ℕ) → starts_with 41 s ≡ false → starts_with 93 s ≡ false
+    → token_of CloseParen (or (caseless (bytes "END") (blanks (caseless (bytes "CASE") end_of_word)) s) (caseless (bytes "END") end_of_word s)) ≡ get_close_paren_token dialect s
+unfolding starts_with get_close_paren_token spelled one typed
+close_left Generic [] e f = refl
+close_left PostgreSql [] e f = refl
+close_left SQLServer [] e f = refl
+close_left Generic (b ∷ s) e f = rw e
+close_left PostgreSql (b ∷ s) e f = rw (e, f)
+close_left SQLServer (b ∷ s) e f = rw e
+
+colons_left : (s : List ℕ) → starts_with 58 s ≡ true → token_of TypeSpecifier (literal (bytes "::") done s) ≡ get_type_specifier_token true s
+unfolding starts_with get_type_specifier_token spelled one typed
+colons_left [] e = absurd (false≢true e)
+colons_left (b ∷ s) e = rw (eqb-true b 58 e) (ap (token_of TypeSpecifier) (or_fails _))
+
+brackets_left : (s : List ℕ) → starts_with 58 s ≡ false → token_of TypeSpecifier (literal (bytes "[]") done s) ≡ get_type_specifier_token true s
+unfolding starts_with get_type_specifier_token spelled one typed
+brackets_left [] e = refl
+brackets_left (b ∷ s) e = rw e
 
 -- ---- as the recognisers use them, where the first byte is not among those that may stand there
 
-module _ (p : Bool) (n : p ≡ false) where
-  pub no_whitespace : (s : List ℕ) → p ≡ starts_among white_starts s → None ≡ get_whitespace_token s
+module _ (r : Option Piece) (f : r ≡ None) where
+  pub no_whitespace : (s : List ℕ) → starts_among white_starts s ≡ false → r ≡ get_whitespace_token s
   unfolding starts_among get_whitespace_token run
-  no_whitespace [] e = refl
-  no_whitespace (b ∷ s) e = no_whitespace_cons b s (sym e ∙ n)
+  no_whitespace [] e = f
+  no_whitespace (b ∷ s) e = f ∙ no_whitespace_cons b s e
 
-  pub no_comment : (s : List ℕ) → p ≡ starts_among (bytes "#-/") s → None ≡ get_comment_token s
+  pub no_comment : (s : List ℕ) → starts_among (bytes "#-/") s ≡ false → r ≡ get_comment_token s
   unfolding starts_among get_comment_token spelled one
-  no_comment [] e = refl
-  no_comment (b ∷ s) e = no_comment_cons b s (sym e ∙ n)
+  no_comment [] e = f
+  no_comment (b ∷ s) e = f ∙ no_comment_cons b s e
 
-  pub no_specifier : (allowed : Bool) (s : List ℕ) → p ≡ starts_among (bytes ":[") s → None ≡ get_type_specifier_token allowed s
+  pub no_specifier : (allowed : Bool) (s : List ℕ) → starts_among (bytes ":[") s ≡ false → r ≡ get_type_specifier_token allowed s
   unfolding starts_among get_type_specifier_token spelled one
-  no_specifier true [] e = refl
-  no_specifier false [] e = refl
-  no_specifier allowed (b ∷ s) e = no_specifier_cons allowed b s (sym e ∙ n)
+  no_specifier true [] e = f
+  no_specifier false [] e = f
+  no_specifier allowed (b ∷ s) e = f ∙ no_specifier_cons allowed b s e
 
-  pub no_string : (dialect : Dialect) (s : List ℕ) → p ≡ starts_among (bytes "'\"`[NExX") s → None ≡ get_string_token dialect s
-  unfolding starts_among get_string_token string_taken quoted_taken hex_taken spelled one
-  no_string Generic [] e = refl
-  no_string PostgreSql [] e = refl
-  no_string SQLServer [] e = refl
-  no_string dialect (b ∷ s) e = no_string_cons dialect b s (sym e ∙ n)
-
-  pub no_open : (dialect : Dialect) (s : List ℕ) → p ≡ starts_among (bytes "([Cc") s → None ≡ get_open_paren_token dialect s
+  pub no_open : (dialect : Dialect) (s : List ℕ) → starts_among (bytes "([Cc") s ≡ false → r ≡ get_open_paren_token dialect s
   unfolding starts_among get_open_paren_token spelled one
-  no_open Generic [] e = refl
-  no_open PostgreSql [] e = refl
-  no_open SQLServer [] e = refl
-  no_open dialect (b ∷ s) e = no_open_cons dialect b s (sym e ∙ n)
+  no_open Generic [] e = f
+  no_open PostgreSql [] e = f
+  no_open SQLServer [] e = f
+  no_open dialect (b ∷ s) e = f ∙ no_open_cons dialect b s e
 
-  pub no_close : (dialect : Dialect) (s : List ℕ) → p ≡ starts_among (bytes ")]Ee") s → None ≡ get_close_paren_token dialect s
+  pub no_close : (dialect : Dialect) (s : List ℕ) → starts_among (bytes ")]Ee") s ≡ false → r ≡ get_close_paren_token dialect s
   unfolding starts_among get_close_paren_token spelled one
-  no_close Generic [] e = refl
-  no_close PostgreSql [] e = refl
-  no_close SQLServer [] e = refl
-  no_close dialect (b ∷ s) e = no_close_cons dialect b s (sym e ∙ n)
+  no_close Generic [] e = f
+  no_close PostgreSql [] e = f
+  no_close SQLServer [] e = f
+  no_close dialect (b ∷ s) e = f ∙ no_close_cons dialect b s e
 
-  pub no_number : (s : List ℕ) → p ≡ starts_among (bytes "-0123456789") s → None ≡ get_number_token s
-  unfolding starts_among get_number_token unsigned scientific_notation decimal_number digit1 count spelled one
-  no_number [] e = refl
-  no_number (b ∷ s) e = no_number_cons b s (sym e ∙ n)
-
-  pub no_placeholder : (named : Bool) (dialect : Dialect) (s : List ℕ) → p ≡ starts_among (bytes "?@:${") s → None ≡ get_placeholder_token named dialect s
+  pub no_placeholder : (named : Bool) (dialect : Dialect) (s : List ℕ) → starts_among (bytes "?@:${") s ≡ false → r ≡ get_placeholder_token named dialect s
   unfolding starts_among get_placeholder_token get_ident_named_placeholder_token get_string_named_placeholder_token get_indexed_placeholder_token get_braced_named_placeholder_token indexed_taken ident_taken string_named_taken braced_taken spelled one
-  no_placeholder true dialect [] e = refl
-  no_placeholder false dialect [] e = refl
-  no_placeholder named dialect (b ∷ s) e = no_placeholder_cons named dialect b s (sym e ∙ n)
+  no_placeholder true dialect [] e = f
+  no_placeholder false dialect [] e = f
+  no_placeholder named dialect (b ∷ s) e = f ∙ no_placeholder_cons named dialect b s e
 
--- ---- as they use them by the first byte: r is made of what was taken
+module _ (r : Option ℕ) (f : r ≡ None) where
+  pub no_string : (dialect : Dialect) (s : List ℕ) → starts_among (bytes "'\"`[NExX") s ≡ false → r ≡ string_taken dialect s
+  unfolding starts_among string_taken quoted_taken hex_taken spelled one
+  no_string Generic [] e = f
+  no_string PostgreSql [] e = f
+  no_string SQLServer [] e = f
+  no_string dialect (b ∷ s) e = f ∙ no_string_cons dialect b s e
 
-module _ (p : Bool) (t : Option ℕ) (r : Option Piece) (s : List ℕ) where
-  pub hash_comment : p ≡ starts_with 35 (drop 0 s) → p ≡ true → t ≡ literal (bytes "#") till_line_ending s → r ≡ token_of LineComment t → r ≡ get_comment_token s
-  hash_comment e q f g = g ∙ (ap (token_of LineComment) f ∙ hash_left s (sym e ∙ q))
+  pub no_named_string : (dialect : Dialect) (s : List ℕ) → starts_among (bytes "'\"`[N") s ≡ false → r ≡ placeholder_string_taken dialect s
+  unfolding starts_among placeholder_string_taken placeholder_quoted_taken spelled one
+  no_named_string Generic [] e = f
+  no_named_string PostgreSql [] e = f
+  no_named_string SQLServer [] e = f
+  no_named_string dialect (b ∷ s) e = f ∙ no_named_cons dialect b s e
 
-  pub dashed_comment : p ≡ starts_with 45 (drop 0 s) → p ≡ true → t ≡ literal (bytes "--") till_line_ending s → r ≡ token_of LineComment t → r ≡ get_comment_token s
-  dashed_comment e q f g = g ∙ (ap (token_of LineComment) f ∙ dashes_left s (sym e ∙ q))
+pub no_number : (s : List ℕ) (p : Bool) → p ≡ starts_among (bytes "-0123456789") s → p ≡ false → None ≡ get_number_token s
+unfolding starts_among get_number_token unsigned scientific_notation decimal_number digit1 count spelled one
+no_number [] p e n = refl
+no_number (b ∷ s) p e n = no_number_cons b s (sym e ∙ n)
 
-  pub block_comment_is : p ≡ starts_with 35 (drop 0 s) → p ≡ false → (o : Bool) → o ≡ starts_with 45 (drop 0 s) → o ≡ false → t ≡ literal (bytes "/*") through_block_end s → r ≡ token_of BlockComment t → r ≡ get_comment_token s
-  block_comment_is e q o e₂ q₂ f g = g ∙ (ap (token_of BlockComment) f ∙ block_left s (sym e ∙ q) (sym e₂ ∙ q₂))
+-- ---- as they use them by the first byte k: r is made of what was taken
+
+-- which byte it is, and which it is not
+module _ (k : ℕ) where
+  pub first_is : (s : List ℕ) (m : ℕ) → starts_with k s ≡ true → k ≡ m → starts_with m s ≡ true
+  first_is s m e q = rw q at e
+
+  pub is_other : (b m : ℕ) → eqb b k ≡ true → (k ≡ m → ⊥) → eqb b m ≡ false
+  is_other b m e n = go (eqb b m) refl
+    where
+      go : (t : Bool) → eqb b m ≡ t → t ≡ false
+      go true q = absurd (n (sym (eqb-true b k e) ∙ eqb-true b m q))
+      go false q = refl
+
+  pub first_not : (s : List ℕ) (m : ℕ) → starts_with k s ≡ true → (k ≡ m → ⊥) → starts_with m s ≡ false
+  unfolding starts_with
+  first_not [] m e n = absurd (false≢true e)
+  first_not (b ∷ s) m e n = is_other b m e n
+
+module _ (k : ℕ) (t : Option ℕ) (r : Option Piece) (s : List ℕ) (e : starts_with k s ≡ true) where
+  pub hash_comment : k ≡ 35 → t ≡ literal (bytes "#") till_line_ending s → r ≡ token_of LineComment t → r ≡ get_comment_token s
+  hash_comment q f g = g ∙ (ap (token_of LineComment) f ∙ hash_left s (first_is k s 35 e q))
+
+  pub dashed_comment : k ≡ 45 → t ≡ literal (bytes "--") till_line_ending s → r ≡ token_of LineComment t → r ≡ get_comment_token s
+  dashed_comment q f g = g ∙ (ap (token_of LineComment) f ∙ dashes_left s (first_is k s 45 e q))
+
+  pub block_comment_is : (k ≡ 35 → ⊥) → (k ≡ 45 → ⊥) → t ≡ literal (bytes "/*") through_block_end s → r ≡ token_of BlockComment t → r ≡ get_comment_token s
+  block_comment_is n m f g = g ∙ (ap (token_of BlockComment) f ∙ block_left s (first_not k s 35 e n) (first_not k s 45 e m))
+
+  module _ (allowed : Bool) (y : allowed ≡ true) where
+    pub colons : k ≡ 58 → t ≡ literal (bytes "::") done s → r ≡ token_of TypeSpecifier t → r ≡ get_type_specifier_token allowed s
+    colons q f g = rw y (g ∙ (ap (token_of TypeSpecifier) f ∙ colons_left s (first_is k s 58 e q)))
+
+    pub brackets : (k ≡ 58 → ⊥) → t ≡ literal (bytes "[]") done s → r ≡ token_of TypeSpecifier t → r ≡ get_type_specifier_token allowed s
+    brackets n f g = rw y (g ∙ (ap (token_of TypeSpecifier) f ∙ brackets_left s (first_not k s 58 e n)))
 
   module _ (dialect : Dialect) where
-    pub open_square : p ≡ starts_with 91 (drop 0 s) → p ≡ true → t ≡ in_postgre_sql dialect (literal (bytes "[") done) s → r ≡ token_of OpenParen t → r ≡ get_open_paren_token dialect s
-    open_square e q f g = g ∙ (ap (token_of OpenParen) f ∙ open_square_left dialect s (sym e ∙ q))
+    pub open_round : k ≡ 40 → t ≡ Some 1 → r ≡ token_of OpenParen t → r ≡ get_open_paren_token dialect s
+    open_round q f g = g ∙ (ap (token_of OpenParen) f ∙ open_round_left dialect s (first_is k s 40 e q))
 
-    pub open_other : p ≡ starts_with 91 (drop 0 s) → p ≡ false → t ≡ or (literal (bytes "(") done s) (caseless (bytes "CASE") end_of_word s) → r ≡ token_of OpenParen t → r ≡ get_open_paren_token dialect s
-    open_other e q f g = rw (g, f) (open_left dialect s (sym e ∙ q))
+    pub open_square : k ≡ 91 → t ≡ in_postgre_sql dialect (literal (bytes "[") done) s → r ≡ token_of OpenParen t → r ≡ get_open_paren_token dialect s
+    open_square q f g = g ∙ (ap (token_of OpenParen) f ∙ open_square_left dialect s (first_is k s 91 e q))
 
-    pub close_square : p ≡ starts_with 93 (drop 0 s) → p ≡ true → t ≡ in_postgre_sql dialect (literal (bytes "]") done) s → r ≡ token_of CloseParen t → r ≡ get_close_paren_token dialect s
-    close_square e q f g = g ∙ (ap (token_of CloseParen) f ∙ close_square_left dialect s (sym e ∙ q))
+    pub open_other : (k ≡ 40 → ⊥) → (k ≡ 91 → ⊥) → t ≡ caseless (bytes "CASE") end_of_word s → r ≡ token_of OpenParen t → r ≡ get_open_paren_token dialect s
+    open_other n m f g = g ∙ (ap (token_of OpenParen) f ∙ open_left dialect s (first_not k s 40 e n) (first_not k s 91 e m))
 
-    pub close_other : p ≡ starts_with 93 (drop 0 s) → p ≡ false → t ≡ or (literal (bytes ")") done s) (or (caseless (bytes "END") (blanks (caseless (bytes "CASE") end_of_word)) s) (caseless (bytes "END") end_of_word s)) → r ≡ token_of CloseParen t → r ≡ get_close_paren_token dialect s
-    close_other e q f g = rw (g, f) (close_left dialect s (sym e ∙ q))
+    pub close_round : k ≡ 41 → t ≡ Some 1 → r ≡ token_of CloseParen t → r ≡ get_close_paren_token dialect s
+    close_round q f g = g ∙ (ap (token_of CloseParen) f ∙ close_round_left dialect s (first_is k s 41 e q))
+
+    pub close_square : k ≡ 93 → t ≡ in_postgre_sql dialect (literal (bytes "]") done) s → r ≡ token_of CloseParen t → r ≡ get_close_paren_token dialect s
+    close_square q f g = g ∙ (ap (token_of CloseParen) f ∙ close_square_left dialect s (first_is k s 93 e q))
+
+    pub close_other : (k ≡ 41 → ⊥) → (k ≡ 93 → ⊥) → t ≡ or (caseless (bytes "END") (blanks (caseless (bytes "CASE") end_of_word)) s) (caseless (bytes "END") end_of_word s) → r ≡ token_of CloseParen t → r ≡ get_close_paren_token dialect s
+    close_other n m f g = g ∙ (ap (token_of CloseParen) f ∙ close_left dialect s (first_not k s 41 e n) (first_not k s 93 e m))

@@ -14,7 +14,6 @@ pub mod CommentLoops
 pub mod ClosingQuote
 pub mod EscapedQuotes
 pub mod Unclosed
-pub mod KnownOnce
 pub mod StringOpeners
 pub mod Blanks
 pub mod Digits
@@ -24,3 +23,4 @@ pub mod NationalKey
 pub mod EscapedExamples
 pub mod PieceSizes
 pub mod PieceBoundaries
+pub mod Neighbours

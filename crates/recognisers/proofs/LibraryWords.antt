@@ -17,7 +17,10 @@ use Rattle.std.specs.List.{slice_get}
 use lib.Dec.{eqb, ltb}
 use lib.Pointwise.{pointwise}
 use borrow.Author.Tests.{eq-eqb, eqb-true, lt-ltb, le-ltb, ltb-true, ltb-false}
-use Rattle.recognisers.specs.Taking.{more, is_spelled, typed, contains, count, starts_with, starts_among}
+use Rattle.std.specs.Char.{to_ascii_uppercase}
+use Rattle.characters.specs.Ranges.{within}
+use Rattle.recognisers.specs.Taking.{more, is_spelled, typed, capital, contains, count, starts_with, starts_among}
+use Rattle.recognisers.specs.Inner.FirstAmong.{FirstAmong}
 use Rattle.recognisers.specs.Same.{same}
 
 eqb_turned : (a b : ℕ) → eqb a b ≡ eqb b a
@@ -41,6 +44,10 @@ starts [] s = refl
 starts (x ∷ w) [] = refl
 starts (x ∷ w) (y ∷ s) = rw (eqb_turned x y, starts w s)
 
+-- the same, turned round for a word that is written out
+pub spelled_starts : (w s : List ℕ) → is_spelled typed w s ≡ pointwise eqb w (take (length w) s)
+spelled_starts w s = sym (starts w s)
+
 -- `strip_prefix`
 pub stripped : (w s : List ℕ) → pointwise eqb (take (length w) s) w ≡ is_spelled typed w s
 unfolding is_spelled typed
@@ -56,8 +63,8 @@ equal [] (c ∷ t) = refl
 equal (b ∷ s) [] = refl
 equal (b ∷ s) (c ∷ t) = rw (equal s t)
 
--- `zip` and `all`
-pub paired : (form : ℕ → ℕ) (w s : List ℕ) → length w ≤ length s → list_all (λ p. eqb (form p.0) p.1) (zip s w) ≡ is_spelled form w s
+-- `split_at_checked`, `zip` and `all`
+pub paired : (form : ℕ → ℕ) (w s : List ℕ) → length w ≤ length s → list_all (λ p. eqb (form p.0) p.1) (zip (take (length w) s) w) ≡ is_spelled form w s
 unfolding is_spelled
 paired form [] [] l = refl
 paired form [] (b ∷ s) l = refl
@@ -69,6 +76,11 @@ not_none e = false≢true (ap is_some (sym e))
 
 pub some_same : {a b : ℕ} → Some a ≡ Some b → a ≡ b
 some_same {a} e = ap (λ (o : Option ℕ). unwrap_or o a) e
+
+-- `to_ascii_uppercase`
+pub upper : (b : ℕ) → to_ascii_uppercase b ≡ capital b
+unfolding capital within
+upper b = grind arith
 
 -- `get(i) == Some(b)`
 pub stood : (s : List ℕ) (i : ℕ) (y : Bor ℕ) (r : Option (Bor ℕ)) → is_some r ≡ ltb i (length s) → IfSome r (λ x. x.now ≡ get_or s i x.now) → option_eq (λ (x y : Bor ℕ). eqb x.now y.now) r (Some y) ≡ starts_with y.now (drop i s)
@@ -82,10 +94,18 @@ unfolding starts_among
 first_among ms [] x q e f = absurd (not_none e)
 first_among ms (b ∷ s) x q e f = f ∙ ap (contains ms) (some_same e)
 
+pub first_here : (s : List ℕ) (x : ℕ) → Some x ≡ slice_get s 0 → starts_with x s ≡ true
+unfolding starts_with
+first_here [] x e = absurd (not_none e)
+first_here (b ∷ s) x e = rw (some_same e) (eq-eqb b b refl)
+
 pub first_none : (ms s : List ℕ) → None ≡ slice_get s 0 → false ≡ starts_among ms s
 unfolding starts_among
 first_none ms [] e = refl
 first_none ms (b ∷ s) e = absurd (not_none (sym e))
+
+pub first_lacks : (ms s : List ℕ) (q : Option ℕ) → q ≡ None → None ≡ slice_get s 0 → FirstAmong ms s q
+first_lacks ms s q e f = rw e (sym (first_none ms s f))
 
 pub split_among : (ms s rest : List ℕ) (x : ℕ) (r q : Bool) → s ≡ x ∷ rest → q ≡ contains ms x → q ≡ r → starts_among ms s ≡ r
 unfolding starts_among

@@ -9,31 +9,13 @@ use mathlib.Core.Bool.{Bool, true, false, cond, ◌||◌}
 use lib.ListN.{drop}
 use Rattle.recognisers.specs.declared.TokenKind.TheVariants.{Operator}
 use Rattle.recognisers.specs.declared.Piece.{Piece}
-use Rattle.recognisers.specs.Taking.{or, end_of_word, at_least, starts_with}
+use Rattle.recognisers.specs.Taking.{or, at_least, starts_with}
 use Rattle.recognisers.specs.Words.{get_any_other_char}
 use Rattle.recognisers.specs.Pieces.{token_of}
 use Rattle.characters.specs.declared.Character.{Character}
-use Rattle.characters.specs.Classes.{is_word_character}
-use Rattle.characters.specs.Character.{character, code_point}
-
--- the character at the start, and what the class says of it
-module _ (s : List ℕ) (x : Character) (r : Bool) (q : x ≡ character (drop 0 s)) (e : r ≡ is_word_character x.code_point) where
-  says : r ≡ is_word_character (code_point s)
-  unfolding character
-  says = rw q at e
-
-  pub word_goes_on : r ≡ true → None ≡ end_of_word s
-  unfolding end_of_word
-  word_goes_on t = rw (← says, t)
-
-  pub word_ends : r ≡ false → Some 0 ≡ end_of_word s
-  unfolding end_of_word
-  word_ends t = rw (← says, t)
+use Rattle.characters.specs.Character.{character}
 
 module _ {A : Type 0} (t : Bool) (x y r : A) where
-  pub cond_yes : t ≡ true → r ≡ x → r ≡ cond t x y
-  cond_yes e q = rw e q
-
   pub cond_no : t ≡ false → r ≡ y → r ≡ cond t x y
   cond_no e q = rw e q
 

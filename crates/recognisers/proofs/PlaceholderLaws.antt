@@ -28,7 +28,7 @@ use Rattle.recognisers.specs.Text.{bytes}
 use Rattle.recognisers.specs.Pieces.{piece}
 use Rattle.recognisers.specs.Taking.{taken, more, done, one, typed, spelled, digit1, contains, starts_with}
 use Rattle.recognisers.specs.Strings.{closed_by, in_sql_server, placeholder_quoted_taken, placeholder_string_taken}
-use Rattle.recognisers.specs.Placeholder.{number_from, number_of, indexed_key, indexed_taken, placeholder_name, ident_taken, through_brace, braced_text, braced_taken, has_escape, string_key, string_named_taken, string_named_pairs, get_indexed_placeholder_token, get_ident_named_placeholder_token, get_braced_named_placeholder_token, get_string_named_placeholder_token}
+use Rattle.recognisers.specs.Placeholder.{number_from, number_of, indexed_key, indexed_taken, placeholder_name, through_brace, braced_text, has_escape, string_key, string_named_taken, string_named_pairs, get_indexed_placeholder_token, get_string_named_placeholder_token}
 use Rattle.recognisers.proofs.TakenInside.{Inside, or_inside, done_inside, one_inside, spelled_inside, cond_inside}
 use Rattle.recognisers.proofs.LibraryWords.{found}
 use Rattle.recognisers.proofs.Digits.{digits_inside}
@@ -47,9 +47,6 @@ pub record NumberAt (s : List ℕ) (n i : ℕ) : Type 0 where
   pub same : number_from n (drop i s) ≡ number_from 0 s
 
 module _ (s : List ℕ) where
-  pub number_start : NumberAt s 0 0
-  number_start = record { inside = omega arith; fits = omega arith; same = refl }
-
   module _ (n i d : ℕ) (at : NumberAt s n i) (h : i < length s) (c : d ≡ get_or s i 0 - 48) where
     next : number_from (n * 10 + d) (drop (i + 1) s) ≡ number_from 0 s
     unfolding number_from
@@ -142,24 +139,6 @@ module _ (s : List ℕ) (t : Option ℕ) where
     pub indexed_nothing : (r : Option Piece) → t ≡ None → r ≡ None → r ≡ get_indexed_placeholder_token s
     unfolding get_indexed_placeholder_token
     indexed_nothing r f g = g ∙ rw (← e, f)
-
-  module _ (e : t ≡ ident_taken s) where
-    pub ident_token : (n m : ℕ) (p : Piece) → t ≡ Some n → m ≡ n - 1 → p ≡ piece Placeholder n None → Some (record { kind = p.kind; len = p.len; alias = p.alias; key = Some (Named 1 m); escaped = p.escaped }) ≡ get_ident_named_placeholder_token s
-    unfolding get_ident_named_placeholder_token
-    ident_token n m p f g h = rw (← e, f, g, h)
-
-    pub ident_nothing : (r : Option Piece) → t ≡ None → r ≡ None → r ≡ get_ident_named_placeholder_token s
-    unfolding get_ident_named_placeholder_token
-    ident_nothing r f g = g ∙ rw (← e, f)
-
-  module _ (e : t ≡ braced_taken s) where
-    pub braced_token : (n m : ℕ) (p : Piece) → t ≡ Some n → m ≡ n - 2 → p ≡ piece Placeholder n None → Some (record { kind = p.kind; len = p.len; alias = p.alias; key = Some (Named 1 m); escaped = p.escaped }) ≡ get_braced_named_placeholder_token s
-    unfolding get_braced_named_placeholder_token
-    braced_token n m p f g h = rw (← e, f, g, h)
-
-    pub braced_nothing : (r : Option Piece) → t ≡ None → r ≡ None → r ≡ get_braced_named_placeholder_token s
-    unfolding get_braced_named_placeholder_token
-    braced_nothing r f g = g ∙ rw (← e, f)
 
   module _ (dialect : Dialect) (e : t ≡ string_named_taken dialect s) where
     pub string_token : (n : ℕ) (k : Option Key) (q : ℕ) (p : Piece) → t ≡ Some n → k ≡ string_key s n → q ≡ string_named_pairs (take n s)

@@ -6,7 +6,6 @@ use native.Mathlib.Omega.{arith}
 use mathlib.Core.Path.{◌≡◌, refl, sym, ap, ◌∙◌}
 use mathlib.Core.List.{List, [], ◌∷◌}
 use mathlib.Core.Bool.{Bool, true, false, cond, not, ◌&&◌, ◌||◌, false≢true, and-eq-true_iff}
-use lib.ListN.{drop}
 use lib.Dec.{ltb, eqb}
 use borrow.Author.Tests.{eqb-true, le-leb}
 use Rattle.characters.specs.Ascii.{is_letter}
@@ -89,7 +88,7 @@ module _ (dialect : Dialect) where
       go true q = rw (eqb-true b 63 q) (mark_first s)
       go false q = names_first b s q n
 
--- as `without_braces` uses it
+-- behind any other mark
 module _ (named : Bool) (dialect : Dialect) (s : List ℕ) (n : starts_with 123 s ≡ false) (found : Option Piece) (e : found ≡ cond (named && not (starts_with 63 s)) None (get_indexed_placeholder_token s)) where
   pub index_found : (p : Piece) → found ≡ Some p → Some p ≡ get_placeholder_token named dialect s
   index_found p k = first_recognises _ _ found p e k ∙ in_order dialect named s n
@@ -97,23 +96,9 @@ module _ (named : Bool) (dialect : Dialect) (s : List ℕ) (n : starts_with 123 
   pub name_found : (r : Option Piece) → found ≡ None → r ≡ alt (get_ident_named_placeholder_token s) (get_string_named_placeholder_token dialect s) → r ≡ get_placeholder_token named dialect s
   name_found r k f = rest_recognises _ _ found r e k f ∙ in_order dialect named s n
 
-  pub ordered : (r : Option Piece) → r ≡ alt found (alt (get_ident_named_placeholder_token s) (get_string_named_placeholder_token dialect s)) → r ≡ get_placeholder_token named dialect s
-  ordered r f = f ∙ rw e (in_order dialect named s n)
-
--- as `index_before_name` uses it
-module _ (named p : Bool) (s : List ℕ) where
-  pub named_mark : (r : Option Piece) → named ≡ true → p ≡ starts_with 63 (drop 0 s) → p ≡ true → r ≡ get_indexed_placeholder_token s → r ≡ cond (named && not (starts_with 63 s)) None (get_indexed_placeholder_token s)
-  named_mark r n e t f = f ∙ rw (n, ← e, t)
-
-  pub named_other : named ≡ true → p ≡ starts_with 63 (drop 0 s) → p ≡ false → None ≡ cond (named && not (starts_with 63 s)) None (get_indexed_placeholder_token s)
-  named_other n e t = rw (n, ← e, t)
-
-pub unnamed : (named : Bool) (s : List ℕ) (r : Option Piece) → named ≡ false → r ≡ get_indexed_placeholder_token s → r ≡ cond (named && not (starts_with 63 s)) None (get_indexed_placeholder_token s)
-unnamed named s r n f = f ∙ rw n
-
--- as `try_placeholder` uses it
-pub braces_are : (named : Bool) (dialect : Dialect) (s : List ℕ) (p : Bool) (r : Option Piece) → p ≡ starts_with 123 (drop 0 s) → p ≡ true → r ≡ get_braced_named_placeholder_token s → r ≡ get_placeholder_token named dialect s
+-- behind a brace
+pub braces_are : (named : Bool) (dialect : Dialect) (s : List ℕ) (k : ℕ) (r : Option Piece) → starts_with k s ≡ true → k ≡ 123 → r ≡ get_braced_named_placeholder_token s → r ≡ get_placeholder_token named dialect s
 unfolding starts_with get_placeholder_token get_ident_named_placeholder_token get_string_named_placeholder_token get_indexed_placeholder_token indexed_taken ident_taken string_named_taken spelled one typed contains
-braces_are named dialect [] p r e q f = absurd (false≢true (sym e ∙ q))
-braces_are true dialect (b ∷ s) p r e q f = f ∙ rw (eqb-true b 123 (sym e ∙ q))
-braces_are false dialect (b ∷ s) p r e q f = f ∙ rw (eqb-true b 123 (sym e ∙ q))
+braces_are named dialect [] k r e q f = absurd (false≢true e)
+braces_are true dialect (b ∷ s) k r e q f = f ∙ rw (eqb-true b k e ∙ q)
+braces_are false dialect (b ∷ s) k r e q f = f ∙ rw (eqb-true b k e ∙ q)

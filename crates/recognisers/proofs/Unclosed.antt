@@ -4,7 +4,9 @@
 use Rattle.std.proofs.Common.{Option, Some, None}
 use Rattle.std.specs.List.{position}
 use Rattle.std.proofs.lemmas.List.Quantifiers.{position-Some}
-use Prim.Native.Nat.{ℕ, zero, suc, ◌+◌, ◌-◌, ◌≤◌, ◌<◌, zero-le}
+use Prim.Native.Nat.{ℕ, zero, suc, ◌+◌, ◌-◌, ◌^◌, ◌≤◌, ◌<◌, zero-le}
+use mir.Syntax.{w64}
+use mir.Val.{Fits}
 use native.Mathlib.Nat.{not-suc-le-zero}
 use native.Mathlib.Omega.{arith}
 use mathlib.Core.Path.{◌≡◌, refl, sym, ap, ◌∙◌}
@@ -21,7 +23,7 @@ use Rattle.recognisers.specs.Strings.{take_till_escaping}
 use Rattle.recognisers.specs.Comment.{till_line_ending}
 use Rattle.recognisers.specs.Placeholder.{through_brace, braced_text}
 use Rattle.recognisers.specs.declared.hints.Hints.{Hints}
-use Rattle.recognisers.specs.Inner.Known.{nothing_known, Known, Barren, Truthful}
+use Rattle.recognisers.specs.Inner.Known.{nothing_known, Known, Barren, Looked, before, failed, Truthful}
 use Rattle.recognisers.proofs.Spelling.{not_fails}
 use Rattle.recognisers.proofs.CommentLoops.{PassedAt, breaks, lone, line_is}
 use Rattle.recognisers.proofs.LibraryWords.{found, some_same}
@@ -87,12 +89,10 @@ module _ (d : ℕ) (esc : List ℕ) where
   pub run_ends : (s : List ℕ) (k i : ℕ) → Known d esc s k → length s ≤ k → PassedAt till s i → starts_with d (drop i s) ≡ false → None ≡ till s
   run_ends s k i h l at e = sym (at.same ∙ ap (more i) (h.fails i (rw length-drop (omega arith)) e))
 
-  pub run_ends_at : (s : List ℕ) (k i : ℕ) (r : Bool) → Known d esc s k → length s ≤ k → PassedAt till s i → r ≡ starts_with d (drop i s) → r ≡ false → None ≡ till s
-  run_ends_at s k i r h l at e f = run_ends s k i h l at (sym e ∙ f)
-
-  -- as a call on a part of the text has it
-  pub known_failed_part : (s : List ℕ) (n : ℕ) (t : Option ℕ) → n ≤ length s → t ≡ till (take (length s - n) (drop n s)) → t ≡ None → Known d esc s (length s - n)
-  known_failed_part s n t i e f = known_failed s n i (ap till (sym (part_end s n)) ∙ sym e ∙ f)
+  -- what a look may have told
+  pub known_looked : (fails : List ℕ → Type 0) → ((r : List ℕ) → fails r → till r ≡ None) → (s : List ℕ) (n k m : ℕ) → Known d esc s k → Looked fails s n k m → Known d esc s m
+  known_looked fails t s n k m h before = h
+  known_looked fails t s n k m h (failed i e) = known_failed s n i (t (drop n s) e)
 
   -- behind the first byte
   pub known_behind : (s rest : List ℕ) (x k : ℕ) → s ≡ x ∷ rest → Known d esc s k → Known d esc rest k
@@ -121,6 +121,17 @@ module _ (d : ℕ) (esc : List ℕ) where
 
       pub run_here : p ≡ false → Some i ≡ till s
       run_here t = quote_here d esc s i p at run_inside c t run_byte
+
+-- a look at a part that reaches to the end
+pub looked_failed : (fails : List ℕ → Type 0) (s rest : List ℕ) (n k : ℕ) → rest ≡ take (length s - n) (drop n s) → length rest + n ≡ length s → fails rest → Looked fails s n k (length rest)
+looked_failed fails s rest n k e l h =
+    let f : rest ≡ drop n s = e ∙ part_end s n in
+    let m : length s - n ≡ length rest = omega arith in
+    rw (← m) (failed (omega arith) (rw f at h))
+
+-- the place behind a byte that stands there
+pub next_fits : (d : ℕ) (s : List ℕ) (i : ℕ) (r : Bool) → r ≡ starts_with d (drop i s) → r ≡ true → length s < 2 ^ 64 → Fits w64 (i + 1)
+next_fits d s i r e y h = let o = starts_some d (drop i s) (sym e ∙ y) in record { fits = omega (arith, length-drop i s) }
 
 -- ---- a part that fails
 
@@ -157,8 +168,9 @@ brace_later (b ∷ s) e (suc q) = brace_later s (go (eqb b 125) (through_brace s
     go true o h = absurd (let z : ◌≡◌ {A = ℕ} 0 1 = cc in let w : ⊥ = omega arith in w)
     go false o h = more_fails 1 o h
 
-pub brace_failed : (s : List ℕ) (n : ℕ) (t : Option ℕ) → n ≤ length s → t ≡ through_brace (take (length s - n) (drop n s)) → t ≡ None → Barren through_brace s 0 (length s - n)
-brace_failed s n t i e f = barren_whole through_brace s 0 n i (record { fails = λ q a b. brace_later (take (length s - n) (drop n s)) (sym e ∙ f) q })
+pub brace_looked : (fails : List ℕ → Type 0) → ((r : List ℕ) → fails r → through_brace r ≡ None) → (s : List ℕ) (n k m : ℕ) → Barren through_brace s 0 k → Looked fails s n k m → Barren through_brace s 0 m
+brace_looked fails t s n k m h before = h
+brace_looked fails t s n k m h (failed i e) = barren_whole through_brace s 0 n i (rw (part_end s n) (record { fails = λ q a b. brace_later (drop n s) (t (drop n s) e) q }))
 
 -- the first break stands as far from each place before it
 break_later : (q : ℕ) (s : List ℕ) (i : ℕ) → position breaks s ≡ Some i → q ≤ i → position breaks (drop q s) ≡ Some (i - q)
@@ -187,10 +199,6 @@ lone_from s t i r e f g h = record { fails = λ q a b. at q a }
         let p = break_later q s i (sym e ∙ f) k in
         let d : drop (i - q) (drop q s) ≡ drop i s = drop-drop (i - q) q s ∙ (let z : q + (i - q) ≡ i = omega arith in rw z) in
         rw (line_is (drop q s), p, d, there)
-
--- more than there are: nothing is said
-pub line_nothing : (s : List ℕ) → Barren till_line_ending s (length s + 1) (length s)
-line_nothing s = record { fails = λ q a b. absurd (let z : ⊥ = omega (arith, length-drop q s) in z) }
 
 -- ---- all classes
 
@@ -225,9 +233,6 @@ truthful_part h s n t =
       brace = barren_part through_brace s _ _ n t.brace;
       line = barren_part till_line_ending s _ _ n t.line;
     }
-
-pub truthful_drop : (h : Hints) (s x : List ℕ) (n : ℕ) → x ≡ drop n s → Truthful h s → Truthful h x
-truthful_drop h s x n e t = let w : Truthful h (take (length s - n) (drop n s)) = truthful_part h s n t in rw (e, ← part_end s n) w
 
 module _ (h : Hints) (s : List ℕ) (t : Truthful h s) where
   pub square_known : Known 93 (bytes "]") s h.square
@@ -273,9 +278,12 @@ module _ (h : Hints) (s : List ℕ) (k : ℕ) (t : Truthful h s) where
   unfolding Truthful
   brace_learnt u = record { square = t.square; double = t.double; single = t.single; brace = u; line = t.line }
 
-  pub line_learnt : (n : ℕ) → n ≤ length s → Barren till_line_ending (take (length s - n) (drop n s)) k (length (take (length s - n) (drop n s))) → Truthful (record { square = h.square; double = h.double; single = h.single; brace = h.brace; line_shortest = k; line_longest = length s - n }) s
+  pub line_learnt : (rest : List ℕ) (n : ℕ) → rest ≡ take (length s - n) (drop n s) → length rest + n ≡ length s → Barren till_line_ending rest k (length rest) → Truthful (record { square = h.square; double = h.double; single = h.single; brace = h.brace; line_shortest = k; line_longest = length rest }) s
   unfolding Truthful
-  line_learnt n i u = record { square = t.square; double = t.double; single = t.single; brace = t.brace; line = barren_whole till_line_ending s k n i u }
+  line_learnt rest n e l u =
+      let m : length s - n ≡ length rest = omega arith in
+      let w : Barren till_line_ending s k (length s - n) = barren_whole till_line_ending s k n (omega arith) (rw e at u) in
+      record { square = t.square; double = t.double; single = t.single; brace = t.brace; line = rw m at w }
 
 pub brace_hint : (h : Hints) (s : List ℕ) → Truthful h s → Barren through_brace s 0 h.brace
 unfolding Truthful

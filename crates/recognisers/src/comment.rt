@@ -1,12 +1,11 @@
 // `get_comment_token`.
-ghost use Rattle.std.specs.Prelude.{◌≡◌, ◌||◌, ◌&&◌, not, ◌==◌, position, drop, Some};
+ghost use Rattle.std.specs.Prelude.{◌≡◌, ◌||◌, ◌==◌, position, Some};
 ghost use Rattle.recognisers.specs.Text.{byte, bytes};
-ghost use Rattle.recognisers.specs.Taking.{literal, starts_with};
+ghost use Rattle.recognisers.specs.Taking.{literal};
 ghost use Rattle.recognisers.specs.Comment.{till_line_ending, through_block_end, get_comment_token};
-ghost use Rattle.recognisers.specs.Inner.Known.{Truthful};
 
-use crate::hints::Hints;
-use crate::scan::{stands_at, starts_among, token_of};
+use crate::rest::Rest;
+use crate::scan::{first_among, is_lone, token_of};
 use crate::{Piece, TokenKind};
 
 // Where the first CR or LF stands.
@@ -17,14 +16,6 @@ pub fn line_break(rest: &[u8]) -> Option<usize>
     rest.iter().position(|b| *b == b'\n' || *b == b'\r')
 }
 
-// A CR without LF stands at the start.
-#[inline(always)]
-pub fn is_lone_return(rest: &[u8]) -> bool
-    ensures { result ≡ (starts_with (byte "\r") rest.now && not (starts_with (byte "\n") (drop 1 rest.now))) }
-{
-    stands_at(rest, 0, b'\r') && !stands_at(rest, 1, b'\n')
-}
-
 // Up to LF, CR LF or the end; a CR without LF is refused.
 pub fn till_line_ending(rest: &[u8]) -> Option<usize>
     ensures { result ≡ till_line_ending rest.now }
@@ -32,7 +23,7 @@ pub fn till_line_ending(rest: &[u8]) -> Option<usize>
     let Some(i) = line_break(rest) else {
         return Some(rest.len());
     };
-    if is_lone_return(&rest[i..]) {
+    if is_lone(&rest[i..], b'\r', b'\n') {
         return None;
     }
     Some(i)
@@ -42,31 +33,33 @@ pub fn till_line_ending(rest: &[u8]) -> Option<usize>
 fn through_block_end(rest: &[u8]) -> usize
     ensures { Some result ≡ through_block_end rest.now }
 {
-    let mut pairs = rest.iter().zip(rest.iter().skip(1));
-    match pairs.position(|(b, next)| *b == b'*' && *next == b'/') {
+    let mut pairs = rest.array_windows::<2>();
+    match pairs.position(|pair| pair[0] == b'*' && pair[1] == b'/') {
         Some(i) => i + 2,
         None => rest.len(),
     }
 }
 
-// The same where hints are had: a line that a CR without LF ends is not read again.
-fn till_line_ending_known(rest: &[u8], hints: &Hints) -> Option<usize>
-    requires { Truthful hints.now rest.now }
-    ensures { result ≡ till_line_ending rest.now }
+// `till_line_ending` by what is known: a line that a CR without LF ends is not read again.
+fn till_line_ending_known(rest: Rest<'_>) -> Option<usize>
+    ensures { result ≡ till_line_ending rest.entry.text.now }
 {
-    if hints.line_shortest <= rest.len() && rest.len() <= hints.line_longest {
+    let n = rest.text.len();
+    if rest.hints.line_shortest <= n && n <= rest.hints.line_longest {
         return None;
     }
-    till_line_ending(rest)
+    till_line_ending(rest.text)
 }
 
 #[inline(always)]
-fn line_comment(rest: &[u8], mark: &[u8], hints: &Hints) -> Option<usize>
-    requires { Truthful hints.now rest.now }
-    ensures { result ≡ literal mark.now till_line_ending rest.now }
+fn line_comment(rest: Rest<'_>, mark: &[u8]) -> Option<usize>
+    ensures { result ≡ literal mark.now till_line_ending rest.entry.text.now }
 {
-    let behind = rest.strip_prefix(mark)?;
-    Some(mark.len() + till_line_ending_known(behind, hints)?)
+    if !rest.text.starts_with(mark) {
+        return None;
+    }
+    let n = mark.len();
+    Some(n + till_line_ending_known(rest.behind(n))?)
 }
 
 fn block_comment(rest: &[u8]) -> Option<usize>
@@ -76,28 +69,15 @@ fn block_comment(rest: &[u8]) -> Option<usize>
     Some(2 + through_block_end(behind))
 }
 
-// By the first byte of its mark.
+// Each first byte leaves one mark.
 #[inline(always)]
-fn try_comment(rest: &[u8], hints: &Hints) -> Option<Piece>
-    requires { Truthful hints.now rest.now }
-    ensures { result ≡ get_comment_token rest.now }
+pub fn get_comment_token(rest: Rest<'_>) -> Option<Piece>
+    ensures { result ≡ get_comment_token rest.entry.text.now }
 {
-    if stands_at(rest, 0, b'#') {
-        return token_of(TokenKind::LineComment, line_comment(rest, b"#", hints));
+    let first = first_among(rest.text, b"#-/")?;
+    match first {
+        b'#' => token_of(TokenKind::LineComment, line_comment(rest, b"#")),
+        b'-' => token_of(TokenKind::LineComment, line_comment(rest, b"--")),
+        _ => token_of(TokenKind::BlockComment, block_comment(rest.text)),
     }
-    if stands_at(rest, 0, b'-') {
-        return token_of(TokenKind::LineComment, line_comment(rest, b"--", hints));
-    }
-    token_of(TokenKind::BlockComment, block_comment(rest))
-}
-
-#[inline(always)]
-pub fn get_comment_token(rest: &[u8], hints: &Hints) -> Option<Piece>
-    requires { Truthful hints.now rest.now }
-    ensures { result ≡ get_comment_token rest.now }
-{
-    if starts_among(rest, b"#-/") {
-        return try_comment(rest, hints);
-    }
-    None
 }

@@ -6,7 +6,7 @@ ghost use Rattle.recognisers.specs.Placeholder.{string_named_pairs};
 use crate::scan::{stands_at, starts_among};
 use crate::strings::escaped_at;
 
-// The pairs that `take_till_escaping` passes, by the same turns.
+// The pairs that `take_till_escaping` passes, by the same turns (a `while`: an escape and the byte behind it are passed together).
 fn pairs_passed(rest: &[u8], desired: u8, escapes: &[u8]) -> usize
     ensures { result ≡ pairs_passed desired escapes.now false rest.now }
 {

@@ -4,6 +4,7 @@ ghost use Rattle.recognisers.specs.Kinds.{kind_number};
 
 use crate::TokenKind;
 
+// A `From` would say the same `as` under the same contract, and be no plainer.
 pub fn kind_number(kind: TokenKind) -> u64
     ensures { result ≡ kind_number kind }
 {

@@ -1,83 +1,65 @@
-// What an opener that opens nothing tells of later ones: the look that failed is made once more, and not again for any rest that is
-// no longer.
-ghost use Rattle.std.specs.Prelude.{◌≤◌, ◌<◌, length};
+// What an opener that opens nothing tells of later ones: the look that failed is made once more, and not again for any rest that
+// is no longer.
+ghost use Rattle.std.specs.Prelude.{◌<◌, length};
 ghost use Rattle.recognisers.specs.Comment.{till_line_ending};
-ghost use Rattle.recognisers.specs.Placeholder.{through_brace};
-ghost use Rattle.recognisers.specs.Inner.Known.{Known, Barren, Truthful};
+ghost use Rattle.std.specs.Fn.{FnReturnsAt};
+ghost use Rattle.recognisers.specs.Inner.Known.{Barren, Truthful, Looked};
 
 use crate::Dialect;
-use crate::comment::{is_lone_return, line_break};
+use crate::comment::line_break;
 use crate::hints::Hints;
 use crate::placeholders::through_brace;
-use crate::scan::stands_at;
+use crate::scan::{is_lone, stands_at};
 use crate::strings::take_till_escaping;
 
-// What is known with a look from a place on.
-fn known_behind(text: &[u8], from: usize, desired: u8, escapes: &[u8], known: usize) -> usize
-    requires { Known desired escapes.now text.now known }
-    ensures { Known desired escapes.now text.now result }
+// The length that is known to lack something, with a look at the rest from a place on.
+fn known_behind<F: Fn(&[u8]) -> Option<usize>>(
+    text: &[u8],
+    from: usize,
+    known: usize,
+    look: F,
+) -> usize
+    requires { F.IsAlwaysCallable look }
+    ensures { Looked (λ rest. FnReturnsAt F.Fn look rest None) text.now from known result }
 {
-    if text.len() < from {
+    let Some(rest) = text.get(from..) else {
+        return known;
+    };
+    if rest.len() <= known {
         return known;
     }
-    if text.len() - from <= known {
-        return known;
-    }
-    match take_till_escaping(&text[from..], desired, escapes) {
+    match look(rest) {
         Some(_) => known,
-        None => text.len() - from,
+        None => rest.len(),
     }
 }
 
-fn brace_behind(text: &[u8], from: usize, lacking: usize) -> usize
-    requires { Barren through_brace text.now 0 lacking }
-    ensures { Barren through_brace text.now 0 result }
-{
-    if text.len() < from {
-        return lacking;
-    }
-    if text.len() - from <= lacking {
-        return lacking;
-    }
-    match through_brace(&text[from..]) {
-        Some(_) => lacking,
-        None => text.len() - from,
-    }
-}
-
-// How long the rest is where its line ends in a CR without LF; more than there is where it does not.
+// How long the rest is where its line ends in a CR without LF; more than there is where it does not, which
+// no rest is.
 fn lone_return(rest: &[u8]) -> usize
     ensures { Barren till_line_ending rest.now result (length rest.now) }
 {
     match line_break(rest) {
-        Some(i) if is_lone_return(&rest[i..]) => rest.len() - i,
+        Some(i) if is_lone(&rest[i..], b'\r', b'\n') => rest.len() - i,
         _ => rest.len() + 1,
     }
 }
 
-// That line, in place of the one that was known before.
-fn learn_new_line(text: &[u8], from: usize, hints: &mut Hints)
-    requires from_in_bounds { from ≤ length text.now }
-    requires truthful { Truthful hints.old text.now }
-    ensures { Truthful hints.new text.now }
-{
-    let lone = lone_return(&text[from..]);
-    hints.line_shortest = lone;
-    hints.line_longest = text.len() - from;
-}
-
+// The text and its hints are two parameters: where one struct holds both, the text's place is read from memory for each token, and
+// searches take up to 4 % longer.
 fn learn_line(text: &[u8], from: usize, hints: &mut Hints)
     requires { Truthful hints.old text.now }
     ensures { Truthful hints.new text.now }
 {
-    if text.len() < from {
+    let Some(rest) = text.get(from..) else {
         return;
-    }
-    let n = text.len() - from;
+    };
+    let n = rest.len();
     if hints.line_shortest <= n && n <= hints.line_longest {
         return;
     }
-    learn_new_line(text, from, hints);
+    hints.line_shortest = lone_return(rest);
+    hints.line_longest = n;
 }
 
 // A square bracket opens in SQLServer alone.
@@ -86,14 +68,15 @@ fn learn_bracket(text: &[u8], from: usize, dialect: Dialect, hints: &mut Hints)
     ensures { Truthful hints.new text.now }
 {
     if dialect == Dialect::SQLServer {
-        hints.square = known_behind(text, from, b']', b"]", hints.square);
+        hints.square = known_behind(text, from, hints.square, |rest| {
+            take_till_escaping(rest, b']', b"]")
+        });
     }
 }
 
 // A mark before a square bracket.
 fn learn_marked(text: &[u8], from: usize, dialect: Dialect, hints: &mut Hints)
-    requires from_in_bounds { from ≤ length text.now }
-    requires truthful { Truthful hints.old text.now }
+    requires { Truthful hints.old text.now }
     ensures { Truthful hints.new text.now }
 {
     if stands_at(text, from, b'[') {
@@ -102,8 +85,7 @@ fn learn_marked(text: &[u8], from: usize, dialect: Dialect, hints: &mut Hints)
 }
 
 fn learn_dashes(text: &[u8], from: usize, hints: &mut Hints)
-    requires from_in_bounds { from ≤ length text.now }
-    requires truthful { Truthful hints.old text.now }
+    requires { Truthful hints.old text.now }
     ensures { Truthful hints.new text.now }
 {
     if stands_at(text, from, b'-') {
@@ -111,7 +93,7 @@ fn learn_dashes(text: &[u8], from: usize, hints: &mut Hints)
     }
 }
 
-// By the opener at a place where it is a token by itself.
+// By the opener at a place where it is a token by itself: each byte has a look or a hint of its own.
 pub fn learn_opener(text: &[u8], at: usize, dialect: Dialect, hints: &mut Hints)
     requires at_in_bounds { at < length text.now }
     requires truthful { Truthful hints.old text.now }
@@ -119,10 +101,18 @@ pub fn learn_opener(text: &[u8], at: usize, dialect: Dialect, hints: &mut Hints)
 {
     let from = at + 1;
     match text[at] {
-        b'\'' => hints.single = known_behind(text, from, b'\'', b"'\\", hints.single),
-        b'"' => hints.double = known_behind(text, from, b'"', b"\"\\", hints.double),
+        b'\'' => {
+            hints.single = known_behind(text, from, hints.single, |rest| {
+                take_till_escaping(rest, b'\'', b"'\\")
+            })
+        }
+        b'"' => {
+            hints.double = known_behind(text, from, hints.double, |rest| {
+                take_till_escaping(rest, b'"', b"\"\\")
+            })
+        }
+        b'{' => hints.brace = known_behind(text, from, hints.brace, through_brace),
         b'[' => learn_bracket(text, from, dialect, hints),
-        b'{' => hints.brace = brace_behind(text, from, hints.brace),
         b'#' => learn_line(text, from, hints),
         b'-' => learn_dashes(text, from, hints),
         b'@' | b':' => learn_marked(text, from, dialect, hints),

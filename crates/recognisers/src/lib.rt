@@ -1,10 +1,9 @@
 // The recognisers of src/tokenizer.rs that look at the text alone, each under its Rust name. A recogniser gets the rest of the
-// statement from the present token on, and asks its first byte before it tries: most of them few bytes can begin. It answers a
+// statement from the present token on. Most ask its first byte before they try, since few bytes can begin them. It answers a
 // piece, or None; a part of a recogniser answers how many bytes it takes, or None where it fails.
 #![tactic(auto)]
 
 mod comment;
-mod comparing;
 mod escaped_quotes;
 mod hints;
 mod kinds;
@@ -13,22 +12,25 @@ mod numbers;
 mod parens;
 mod pieces;
 mod placeholders;
+mod rest;
 mod scan;
 mod strings;
 mod type_specifier;
+mod word_ahead;
 mod words;
 
 pub use comment::{get_comment_token, till_line_ending};
-pub use comparing::is_exactly;
 pub use hints::{Hints, no_hints};
 pub use kinds::kind_number;
 pub use learning::learn_opener;
 pub use numbers::get_number_token;
 pub use parens::{get_close_paren_token, get_open_paren_token};
 pub use placeholders::{get_braced_named_placeholder_token, get_placeholder_token};
-pub use scan::{capital_of, end_of_word, is_spelled, n_more, stands_at, token_of, word_length};
+pub use rest::Rest;
+pub use scan::{end_of_word, is_lone, n_more, stands_at, token_of};
 pub use strings::get_string_token;
 pub use type_specifier::get_type_specifier_token;
+pub use word_ahead::WordAhead;
 pub use words::{get_any_other_char, get_operator_token, get_whitespace_token, get_word_token};
 
 // The SQL dialect, as in src/lib.rs.

@@ -4,10 +4,11 @@ ghost use Rattle.recognisers.specs.Text.{bytes};
 ghost use Rattle.recognisers.specs.Taking.{or, done, literal, caseless, blanks, end_of_word};
 ghost use Rattle.recognisers.specs.Parens.{in_postgre_sql, get_open_paren_token, get_close_paren_token};
 
-use crate::scan::{behind_caseless, caseless_word, exactly, stands_at, starts_among, token_of};
+use crate::scan::{behind_caseless, caseless_word, exactly, first_among, token_of};
 use crate::{Dialect, Piece, TokenKind};
 use characters::Class;
 
+// A square bracket is a paren in PostgreSql alone.
 fn square(rest: &[u8], bracket: &[u8], dialect: Dialect) -> Option<usize>
     ensures { result ≡ in_postgre_sql dialect (literal bracket.now done) rest.now }
 {
@@ -17,30 +18,18 @@ fn square(rest: &[u8], bracket: &[u8], dialect: Dialect) -> Option<usize>
     None
 }
 
-fn opening(rest: &[u8]) -> Option<usize>
-    ensures { result ≡ or (literal (bytes "(") done rest.now) (caseless (bytes "CASE") end_of_word rest.now) }
-{
-    exactly(rest, b"(").or_else(|| caseless_word(rest, b"CASE"))
-}
-
-#[inline(always)]
-fn try_open_paren(rest: &[u8], dialect: Dialect) -> Option<Piece>
-    ensures { result ≡ get_open_paren_token dialect rest.now }
-{
-    if stands_at(rest, 0, b'[') {
-        return token_of(TokenKind::OpenParen, square(rest, b"[", dialect));
-    }
-    token_of(TokenKind::OpenParen, opening(rest))
-}
-
+// Each first byte leaves one form.
 #[inline(always)]
 pub fn get_open_paren_token(rest: &[u8], dialect: Dialect) -> Option<Piece>
     ensures { result ≡ get_open_paren_token dialect rest.now }
 {
-    if starts_among(rest, b"([Cc") {
-        return try_open_paren(rest, dialect);
-    }
-    None
+    let first = first_among(rest, b"([Cc")?;
+    let n = match first {
+        b'(' => Some(1),
+        b'[' => square(rest, b"[", dialect),
+        _ => caseless_word(rest, b"CASE"),
+    };
+    token_of(TokenKind::OpenParen, n)
 }
 
 // Whitespace, one character at least, and then a word in capitals.
@@ -61,30 +50,22 @@ fn end_case(rest: &[u8]) -> Option<usize>
     Some(3 + blanks_then_word(behind, b"CASE")?)
 }
 
-fn closing(rest: &[u8]) -> Option<usize>
-    ensures { result ≡ or (literal (bytes ")") done rest.now) (or (caseless (bytes "END") (blanks (caseless (bytes "CASE") end_of_word)) rest.now) (caseless (bytes "END") end_of_word rest.now)) }
+fn end(rest: &[u8]) -> Option<usize>
+    ensures { result ≡ or (caseless (bytes "END") (blanks (caseless (bytes "CASE") end_of_word)) rest.now) (caseless (bytes "END") end_of_word rest.now) }
 {
-    exactly(rest, b")")
-        .or_else(|| end_case(rest))
-        .or_else(|| caseless_word(rest, b"END"))
+    end_case(rest).or_else(|| caseless_word(rest, b"END"))
 }
 
-#[inline(always)]
-fn try_close_paren(rest: &[u8], dialect: Dialect) -> Option<Piece>
-    ensures { result ≡ get_close_paren_token dialect rest.now }
-{
-    if stands_at(rest, 0, b']') {
-        return token_of(TokenKind::CloseParen, square(rest, b"]", dialect));
-    }
-    token_of(TokenKind::CloseParen, closing(rest))
-}
-
+// With the same three questions as the other, of other bytes and words: one function for both would take them all, and be no plainer.
 #[inline(always)]
 pub fn get_close_paren_token(rest: &[u8], dialect: Dialect) -> Option<Piece>
     ensures { result ≡ get_close_paren_token dialect rest.now }
 {
-    if starts_among(rest, b")]Ee") {
-        return try_close_paren(rest, dialect);
-    }
-    None
+    let first = first_among(rest, b")]Ee")?;
+    let n = match first {
+        b')' => Some(1),
+        b']' => square(rest, b"]", dialect),
+        _ => end(rest),
+    };
+    token_of(TokenKind::CloseParen, n)
 }

@@ -1,21 +1,22 @@
 // The four placeholders and their keys.
-ghost use Rattle.std.specs.Prelude.{◌≡◌, false, not, cond, ◌&&◌, ◌-◌, ◌≤◌, length, None};
+ghost use Rattle.std.specs.Prelude.{◌≡◌, false, not, cond, ◌&&◌, ◌-◌, ◌≤◌, length, Some, None};
+ghost use Rattle.recognisers.specs.declared.Key.TheVariants.{Named};
+ghost use Rattle.recognisers.specs.declared.TokenKind.TheVariants.{Placeholder};
 ghost use Rattle.recognisers.specs.Taking.{one, literal, contains, starts_with};
 ghost use Rattle.recognisers.specs.Text.{byte};
-ghost use Rattle.recognisers.specs.Pieces.{alt};
+ghost use Rattle.recognisers.specs.Pieces.{piece, alt};
 ghost use Rattle.recognisers.specs.Strings.{placeholder_string_taken};
 ghost use Rattle.recognisers.specs.Placeholder.{number_of, indexed, indexed_key, indexed_taken, get_indexed_placeholder_token, placeholder_name, ident_taken, get_ident_named_placeholder_token, through_brace, braced_text, braced_taken, get_braced_named_placeholder_token, has_escape, string_key, string_named_taken, get_string_named_placeholder_token, get_placeholder_token};
-ghost use Rattle.recognisers.specs.Inner.Known.{Truthful};
 
 use crate::escaped_quotes::string_named_pairs;
-use crate::hints::Hints;
 use crate::numbers::marked_digits;
-use crate::scan::{at_least, behind_mark, exactly, stands_at, starts_among};
+use crate::rest::Rest;
+use crate::scan::{at_least, behind_mark, exactly, first_among, stands_at, starts_among};
 use crate::strings::placeholder_string_taken;
-use crate::{Dialect, Key, Piece, TokenKind};
+use crate::{Key, Piece, TokenKind};
 use characters::Class;
 
-// The number that the digits spell, where it fits 64 bits.
+// The number that the digits spell, where it fits 64 bits. (No `parse`: these are bytes and no str.)
 fn number_of(digits: &[u8]) -> Option<u64>
     ensures { result ≡ number_of digits.now }
 {
@@ -60,6 +61,20 @@ pub fn get_indexed_placeholder_token(rest: &[u8]) -> Option<Piece>
     })
 }
 
+// A placeholder whose name stands behind one sign; `signs` tells all around it.
+#[inline(always)]
+fn named_piece(n: usize, signs: usize) -> Piece
+    ensures { result ≡ piece Placeholder n (Some (Named 1 (n - signs))) }
+{
+    Piece {
+        key: Some(Key::Named {
+            start: 1,
+            len: n.saturating_sub(signs),
+        }),
+        ..Piece::of(TokenKind::Placeholder, n)
+    }
+}
+
 #[inline(always)]
 fn placeholder_name(rest: &[u8]) -> Option<usize>
     ensures { result ≡ placeholder_name rest.now }
@@ -76,17 +91,11 @@ fn ident_taken(rest: &[u8]) -> Option<usize>
 }
 
 #[inline(always)]
+#[tactic(auto, unfolding(crate::specs::Placeholder::get_ident_named_placeholder_token))]
 pub fn get_ident_named_placeholder_token(rest: &[u8]) -> Option<Piece>
     ensures { result ≡ get_ident_named_placeholder_token rest.now }
 {
-    let n = ident_taken(rest)?;
-    Some(Piece {
-        key: Some(Key::Named {
-            start: 1,
-            len: n.saturating_sub(1),
-        }),
-        ..Piece::of(TokenKind::Placeholder, n)
-    })
+    Some(named_piece(ident_taken(rest)?, 1))
 }
 
 pub fn through_brace(rest: &[u8]) -> Option<usize>
@@ -95,46 +104,40 @@ pub fn through_brace(rest: &[u8]) -> Option<usize>
     Some(rest.iter().position(|b| *b == b'}')? + 1)
 }
 
-fn braced_text(rest: &[u8], hints: &Hints) -> Option<usize>
-    requires { Truthful hints.now rest.now }
-    ensures { result ≡ braced_text rest.now }
+fn braced_text(rest: Rest<'_>) -> Option<usize>
+    ensures { result ≡ braced_text rest.entry.text.now }
 {
-    if stands_at(rest, 0, b'}') {
+    if stands_at(rest.text, 0, b'}') {
         return None;
     }
-    if rest.len() <= hints.brace {
+    if rest.text.len() <= rest.hints.brace {
         return None;
     }
-    through_brace(rest)
+    through_brace(rest.text)
 }
 
-fn braced_taken(rest: &[u8], hints: &Hints) -> Option<usize>
-    requires { Truthful hints.now rest.now }
-    ensures { result ≡ braced_taken rest.now }
+fn braced_taken(rest: Rest<'_>) -> Option<usize>
+    ensures { result ≡ braced_taken rest.entry.text.now }
 {
-    let behind = rest.strip_prefix(b"{")?;
-    Some(1 + braced_text(behind, hints)?)
+    if !rest.text.starts_with(b"{") {
+        return None;
+    }
+    Some(1 + braced_text(rest.behind(1))?)
 }
 
 #[inline(always)]
-pub fn get_braced_named_placeholder_token(rest: &[u8], hints: &Hints) -> Option<Piece>
-    requires { Truthful hints.now rest.now }
-    ensures { result ≡ get_braced_named_placeholder_token rest.now }
+#[tactic(auto, unfolding(crate::specs::Placeholder::get_braced_named_placeholder_token))]
+pub fn get_braced_named_placeholder_token(rest: Rest<'_>) -> Option<Piece>
+    ensures { result ≡ get_braced_named_placeholder_token rest.entry.text.now }
 {
-    let n = braced_taken(rest, hints)?;
-    Some(Piece {
-        key: Some(Key::Named {
-            start: 1,
-            len: n.saturating_sub(2),
-        }),
-        ..Piece::of(TokenKind::Placeholder, n)
-    })
+    Some(named_piece(braced_taken(rest)?, 2))
 }
 
 // A backslash stands directly before the quote.
 fn has_escape(text: &[u8], quote: u8) -> bool
     ensures { result ≡ has_escape quote text.now }
 {
+    // By `zip`: over long texts with backslashes `array_windows` was measured to take 2.7 times as long.
     let mut pairs = text.iter().zip(text.iter().skip(1));
     pairs.any(|(b, next)| *b == b'\\' && *next == quote)
 }
@@ -160,27 +163,23 @@ fn string_key(rest: &[u8], n: usize) -> Option<Key>
     })
 }
 
-fn string_named_taken(rest: &[u8], dialect: Dialect, hints: &Hints) -> Option<usize>
-    requires { Truthful hints.now rest.now }
-    ensures { result ≡ string_named_taken dialect rest.now }
+fn string_named_taken(rest: Rest<'_>) -> Option<usize>
+    ensures { result ≡ string_named_taken rest.entry.dialect rest.entry.text.now }
 {
-    let behind = behind_mark(rest, b"@:")?;
-    Some(1 + placeholder_string_taken(behind, dialect, hints)?)
+    if !starts_among(rest.text, b"@:") {
+        return None;
+    }
+    Some(1 + placeholder_string_taken(rest.behind(1))?)
 }
 
 #[inline(always)]
-pub fn get_string_named_placeholder_token(
-    rest: &[u8],
-    dialect: Dialect,
-    hints: &Hints,
-) -> Option<Piece>
-    requires { Truthful hints.now rest.now }
-    ensures { result ≡ get_string_named_placeholder_token dialect rest.now }
+pub fn get_string_named_placeholder_token(rest: Rest<'_>) -> Option<Piece>
+    ensures { result ≡ get_string_named_placeholder_token rest.entry.dialect rest.entry.text.now }
 {
-    let n = string_named_taken(rest, dialect, hints)?;
+    let n = string_named_taken(rest)?;
     Some(Piece {
-        key: string_key(rest, n),
-        escaped: string_named_pairs(&rest[..n]),
+        key: string_key(rest.text, n),
+        escaped: string_named_pairs(&rest.text[..n]),
         ..Piece::of(TokenKind::Placeholder, n)
     })
 }
@@ -198,48 +197,27 @@ fn index_before_name(rest: &[u8], named: bool) -> Option<Piece>
     get_indexed_placeholder_token(rest)
 }
 
-fn name_or_string(rest: &[u8], dialect: Dialect, hints: &Hints) -> Option<Piece>
-    requires { Truthful hints.now rest.now }
-    ensures { result ≡ alt (get_ident_named_placeholder_token rest.now) (get_string_named_placeholder_token dialect rest.now) }
+// No `or_else`, as in the choice of tokenizer: a function apart takes its closure.
+fn name_or_string(rest: Rest<'_>) -> Option<Piece>
+    ensures { result ≡ alt (get_ident_named_placeholder_token rest.entry.text.now) (get_string_named_placeholder_token rest.entry.dialect rest.entry.text.now) }
 {
-    get_ident_named_placeholder_token(rest).or_else(|| get_string_named_placeholder_token(
-        rest, dialect, hints,
-    ))
+    if let Some(piece) = get_ident_named_placeholder_token(rest.text) {
+        return Some(piece);
+    }
+    get_string_named_placeholder_token(rest)
 }
 
 // Each alternative is tried only where those before it recognise nothing: `$1$1..` would be one long name.
 #[inline(always)]
-fn without_braces(rest: &[u8], named: bool, dialect: Dialect, hints: &Hints) -> Option<Piece>
-    requires truthful { Truthful hints.now rest.now }
-    requires rest_value { starts_with (byte "{") rest.now ≡ false }
-    ensures { result ≡ get_placeholder_token named dialect rest.now }
+pub fn get_placeholder_token(rest: Rest<'_>, named: bool) -> Option<Piece>
+    ensures { result ≡ get_placeholder_token named rest.entry.dialect rest.entry.text.now }
 {
-    index_before_name(rest, named).or_else(|| name_or_string(rest, dialect, hints))
-}
-
-#[inline(always)]
-fn try_placeholder(rest: &[u8], named: bool, dialect: Dialect, hints: &Hints) -> Option<Piece>
-    requires { Truthful hints.now rest.now }
-    ensures { result ≡ get_placeholder_token named dialect rest.now }
-{
-    if stands_at(rest, 0, b'{') {
-        return get_braced_named_placeholder_token(rest, hints);
+    let first = first_among(rest.text, b"?@:${")?;
+    if first == b'{' {
+        return get_braced_named_placeholder_token(rest);
     }
-    without_braces(rest, named, dialect, hints)
-}
-
-#[inline(always)]
-pub fn get_placeholder_token(
-    rest: &[u8],
-    named: bool,
-    dialect: Dialect,
-    hints: &Hints,
-) -> Option<Piece>
-    requires { Truthful hints.now rest.now }
-    ensures { result ≡ get_placeholder_token named dialect rest.now }
-{
-    if starts_among(rest, b"?@:${") {
-        return try_placeholder(rest, named, dialect, hints);
+    if let Some(piece) = index_before_name(rest.text, named) {
+        return Some(piece);
     }
-    None
+    name_or_string(rest)
 }

@@ -1,10 +1,10 @@
 // What the recognisers are made of.
-ghost use Rattle.std.specs.Prelude.{◌≡◌, ◌+◌, ◌^◌, ◌<◌, length, drop};
+ghost use Rattle.std.specs.Prelude.{◌≡◌, not, ◌&&◌, ◌+◌, ◌^◌, ◌<◌, length, drop};
 ghost use Rattle.characters.specs.Ranges.{within};
-ghost use Rattle.recognisers.specs.Taking.{taken, more, done, literal, caseless, typed, capital, is_spelled, end_of_word, is_digit, count, at_least, contains, starts_with, starts_among};
+ghost use Rattle.recognisers.specs.Taking.{taken, more, done, literal, caseless, capital, is_spelled, end_of_word, is_digit, count, at_least, contains, starts_with, starts_among};
 ghost use Rattle.recognisers.specs.Pieces.{token_of};
-ghost use Rattle.recognisers.specs.Inner.WordLength.{word_length};
 ghost use Rattle.recognisers.specs.Inner.Behind.{Behind};
+ghost use Rattle.recognisers.specs.Inner.FirstAmong.{FirstAmong};
 
 use crate::{Piece, TokenKind};
 
@@ -21,14 +21,6 @@ pub fn is_among(bytes: &[u8], b: u8) -> bool
     false
 }
 
-// The word stands at the start, as typed.
-#[inline(always)]
-pub fn is_spelled(rest: &[u8], word: &[u8]) -> bool
-    ensures { result ≡ is_spelled typed word.now rest.now }
-{
-    rest.starts_with(word)
-}
-
 // The byte at i is b.
 #[inline(always)]
 pub fn stands_at(rest: &[u8], i: usize, b: u8) -> bool
@@ -37,27 +29,15 @@ pub fn stands_at(rest: &[u8], i: usize, b: u8) -> bool
     rest.get(i) == Some(&b)
 }
 
-pub fn capital_of(b: u8) -> u8
-    ensures { result ≡ capital b }
-{
-    b.to_ascii_uppercase()
-}
-
-// The word, which is in capitals, stands at the start in either case.
-fn is_spelled_caseless(rest: &[u8], word: &[u8]) -> bool
-    ensures { result ≡ is_spelled capital word.now rest.now }
-{
-    word.len() <= rest.len() && rest.iter().zip(word).all(|(b, w)| capital_of(*b) == *w)
-}
-
-// What stands behind such a word.
+// What stands behind the word, which is in capitals and stands at the start in either case.
 pub fn behind_caseless<'a>(rest: &'a [u8], word: &[u8]) -> Option<&'a [u8]>
     ensures { Behind (is_spelled capital word.now rest.now) (length word.now) rest.now result }
 {
-    if is_spelled_caseless(rest, word) {
-        return Some(&rest[word.len()..]);
-    }
-    None
+    let (front, behind) = rest.split_at_checked(word.len())?;
+    let mut pairs = front.iter().zip(word);
+    pairs
+        .all(|(b, w)| b.to_ascii_uppercase() == *w)
+        .then_some(behind)
 }
 
 // What stands behind one of the marks.
@@ -72,6 +52,7 @@ pub fn behind_mark<'a>(rest: &'a [u8], marks: &[u8]) -> Option<&'a [u8]>
     None
 }
 
+// This, `count_operators` and `WordAhead::of` are the library's `position` and the length: one function over a test would be no plainer.
 pub fn count_digits(rest: &[u8]) -> usize
     ensures { result ≡ count is_digit rest.now }
 {
@@ -79,16 +60,8 @@ pub fn count_digits(rest: &[u8]) -> usize
     end.unwrap_or(rest.len())
 }
 
-// How many ASCII word characters stand at the start.
-#[inline(always)]
-pub fn word_length(rest: &[u8]) -> usize
-    ensures { result ≡ word_length rest.now }
-{
-    let end = rest.iter().position(|b| !characters::is_ascii_word(*b));
-    end.unwrap_or(rest.len())
-}
-
-// n bytes more, for crates above.
+// n bytes more. (A `?` in its place gives the loop over reserved phrases one way out more, which makes `tokenize` 40 % slower on
+// them.)
 pub fn n_more(n: usize, t: Option<usize>) -> Option<usize>
     requires { n + taken t < 2 ^ 64 }
     ensures { result ≡ more n t }
@@ -102,18 +75,16 @@ pub fn at_least(least: usize, n: usize) -> Option<usize>
     (least <= n).then_some(n)
 }
 
+#[tactic(auto, unfolding(crate::specs::Taking::end_of_word, characters::specs::Character::character))]
 pub fn end_of_word(rest: &[u8]) -> Option<usize>
     ensures { result ≡ end_of_word rest.now }
 {
     let c = characters::character_at(rest, 0);
-    if characters::is_word_character(c.code_point) {
-        None
-    } else {
-        Some(0)
-    }
+    (!characters::is_word_character(c.code_point)).then_some(0)
 }
 
-// One of the marks stands at the start.
+// One of the marks stands at the start. (Whether, here; which, in `first_among`; and what is behind, in `behind_mark`: three answers to one
+// question, and each caller takes the least.)
 #[inline(always)]
 pub fn starts_among(rest: &[u8], marks: &[u8]) -> bool
     ensures { result ≡ starts_among marks.now rest.now }
@@ -122,6 +93,26 @@ pub fn starts_among(rest: &[u8], marks: &[u8]) -> bool
         Some(b) => is_among(marks, *b),
         None => false,
     }
+}
+
+// The byte at the start, where it is one of the marks.
+#[inline(always)]
+pub fn first_among(rest: &[u8], marks: &[u8]) -> Option<u8>
+    ensures { FirstAmong marks.now rest.now result }
+{
+    let first = *rest.first()?;
+    if is_among(marks, first) {
+        return Some(first);
+    }
+    None
+}
+
+// `b` stands at the start, and `next` does not behind it.
+#[inline(always)]
+pub fn is_lone(rest: &[u8], b: u8, next: u8) -> bool
+    ensures { result ≡ (starts_with b rest.now && not (starts_with next (drop 1 rest.now))) }
+{
+    stands_at(rest, 0, b) && !stands_at(rest, 1, next)
 }
 
 // The word alone, as typed.

@@ -2,24 +2,14 @@
 ghost use Rattle.std.specs.Prelude.{◌≡◌, ◌||◌, min};
 ghost use Rattle.recognisers.specs.Taking.{count, starts_with};
 ghost use Rattle.recognisers.specs.Text.{byte};
-ghost use Rattle.recognisers.specs.Inner.WordLength.{word_length};
 ghost use Rattle.characters.specs.Classes.{is_word_character};
 ghost use Rattle.characters.specs.Runs.{run};
 ghost use Rattle.recognisers.specs.Words.{get_whitespace_token, is_operator, get_operator_token, get_word_token, get_any_other_char};
 
 use crate::scan::{at_least, is_among, stands_at, starts_among, token_of};
+use crate::word_ahead::WordAhead;
 use crate::{Piece, TokenKind};
 use characters::Class;
-
-#[inline(always)]
-fn try_whitespace(rest: &[u8]) -> Option<Piece>
-    ensures { result ≡ get_whitespace_token rest.now }
-{
-    token_of(
-        TokenKind::Whitespace,
-        at_least(1, characters::run_of(rest, Class::Whitespace)),
-    )
-}
 
 // No other byte begins whitespace; C0, E0 and F0 begin none in a well-formed text.
 #[inline(always)]
@@ -27,7 +17,8 @@ pub fn get_whitespace_token(rest: &[u8]) -> Option<Piece>
     ensures { result ≡ get_whitespace_token rest.now }
 {
     if starts_among(rest, b"\x09\x0A\x0B\x0C\x0D \xC0\xC2\xE0\xE1\xE2\xE3\xF0") {
-        return try_whitespace(rest);
+        let n = characters::run_of(rest, Class::Whitespace);
+        return token_of(TokenKind::Whitespace, at_least(1, n));
     }
     None
 }
@@ -61,28 +52,28 @@ pub fn get_operator_token(rest: &[u8]) -> Option<Piece>
     token_of(TokenKind::Operator, at_least(2, few_operators(rest)))
 }
 
-// The end of a word that begins with so many ASCII word characters.
+// The end of the word.
 #[inline(always)]
-fn word_end(rest: &[u8], word: usize) -> usize
-    requires { word ≡ word_length rest.now }
-    ensures { result ≡ run is_word_character 0 rest.now }
+#[tactic(auto, unfolding(characters::specs::Runs::in_class), using(crate::proofs::WordRuns::word_at, crate::proofs::WordRuns::word_whole, crate::proofs::WordRuns::word_stops))]
+fn word_end(word: WordAhead<'_>) -> usize
+    ensures { result ≡ run is_word_character 0 word.entry.rest.now }
 {
-    if rest.len() <= word {
-        return word;
+    let WordAhead { rest, len } = word;
+    if rest.len() <= len {
+        return len;
     }
-    if rest[word] < 128 {
-        return word;
+    if rest[len] < 128 {
+        return len;
     }
-    characters::run_from(rest, word, Class::Word)
+    characters::run_from(rest, len, Class::Word)
 }
 
-// `word` is what `word_length` tells of the rest.
 #[inline(always)]
-pub fn get_word_token(rest: &[u8], word: usize) -> Option<Piece>
-    requires { word ≡ word_length rest.now }
-    ensures { result ≡ get_word_token rest.now }
+#[tactic(auto, unfolding(crate::specs::Words::get_word_token))]
+pub fn get_word_token(word: WordAhead<'_>) -> Option<Piece>
+    ensures { result ≡ get_word_token word.entry.rest.now }
 {
-    token_of(TokenKind::Word, at_least(1, word_end(rest, word)))
+    token_of(TokenKind::Word, at_least(1, word_end(word)))
 }
 
 fn is_line_break(rest: &[u8]) -> bool

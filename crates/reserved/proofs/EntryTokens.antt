@@ -6,7 +6,8 @@ use native.Mathlib.Omega.{arith}
 use mathlib.Core.Path.{◌≡◌, refl, sym, ap, ◌∙◌}
 use mathlib.Core.List.{List, [], ◌∷◌, ◌++◌}
 use mathlib.Core.Bool.{Bool, true, false, false≢true}
-use lib.ListN.{length}
+use lib.ListN.{length, take}
+use Rattle.std.proofs.lemmas.List.{length-take-le, take_all}
 use Rattle.recognisers.specs.declared.Piece.{Piece}
 use Rattle.recognisers.specs.declared.TokenKind.TheVariants.{Reserved, ReservedTopLevelNoIndent, ReservedNewlineAfter}
 use Rattle.recognisers.specs.declared.TokenKind.TheVariants.{Join as JoinToken}
@@ -198,5 +199,25 @@ found_inside (x ∷ es) s group n e = go (entry_end x.0 x.1 s) refl (found_insid
         omega arith
     go None q rest = rest (rw q at e)
 
-pub entry_length : (s : List ℕ) (group : Group) (n : ℕ) → Some (group, n) ≡ find_entry entries s → n ≤ length s
+entry_length : (s : List ℕ) (group : Group) (n : ℕ) → Some (group, n) ≡ find_entry entries s → n ≤ length s
 entry_length s group n e = found_inside entries s group n e
+
+-- ---- a token goes by its phrase's bytes alone
+
+module _ (between : Bool) (last : LastTopLevel) (s : List ℕ) (n : ℕ) where
+  same_bytes : (group : Group) (value : List ℕ) → length value ≡ n → take n value ≡ take n s → token_for between last value (Some (group, length value)) ≡ token_for between last s (Some (group, n))
+  same_bytes TopLevel value e f = rw (e, f)
+  same_bytes Dropped value e f = rw (e, f)
+  same_bytes NewlineAfter value e f = rw e
+  same_bytes Newline value e f = rw (e, f)
+  same_bytes Join value e f = rw e
+  same_bytes NoIndent value e f = rw e
+  same_bytes Plain value e f = rw e
+
+  pub value_length : (group : Group) → Some (group, n) ≡ find_entry entries s → length (take n s) ≡ n
+  value_length group e = length-take-le n s (entry_length s group n e)
+
+  pub by_value : (group : Group) → Some (group, n) ≡ find_entry entries s → token_for between last (take n s) (Some (group, length (take n s))) ≡ token_for between last s (find_entry entries s)
+  by_value group e =
+      let l = value_length group e in
+      same_bytes group (take n s) l (take_all n (take n s) (omega (arith, l))) ∙ ap (token_for between last s) e

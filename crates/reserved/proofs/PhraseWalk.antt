@@ -1,6 +1,7 @@
 -- A phrase's words in the text, one byte of the phrase at a time.
 -- Assumes nothing.
 use Rattle.std.proofs.Common.{Option, Some, None, slice_get}
+use Rattle.std.specs.Char.{to_ascii_uppercase}
 use Prim.Native.Nat.{ℕ, suc, ◌+◌, ◌-◌, ◌^◌, ◌≤◌, ◌<◌, zero-le}
 use native.Mathlib.Nat.{add-zero}
 use native.Mathlib.Numerals.{add-one}
@@ -21,8 +22,9 @@ use Rattle.characters.specs.declared.Class.TheVariants.{Whitespace}
 use Rattle.recognisers.specs.Taking.{Taker, taken, more, done, one, capital, blanks, end_of_word}
 use Rattle.recognisers.specs.Text.{bytes}
 use Rattle.characters.proofs.Rests.{part_end}
+use Rattle.recognisers.proofs.LibraryWords.{upper}
 use Rattle.recognisers.proofs.Spelling.{more_zero, more_more}
-use Rattle.recognisers.proofs.TakenInside.{Inside, done_inside, one_inside, end_of_word_inside, fits_more}
+use Rattle.recognisers.proofs.TakenInside.{Inside, done_inside, one_inside, end_of_word_inside}
 use Rattle.recognisers.proofs.Blanks.{blanks_none, blanks_then, blanks_inside}
 use Rattle.reserved.specs.Phrases.{Phrase, phrase, phrase_if_exists, walk, after, optional}
 use Rattle.reserved.specs.UcChoices.{behind}
@@ -82,35 +84,32 @@ module _ (s : List ℕ) (p : ℕ) where
     unfolding walk
     gap_taken z = blanks_then s n r done (Some 0) (Some n) z refl (ap Some (sym (add-zero n))) ∙ rw (eq-eqb p 32 e)
 
-  module _ (ne : eqb p 32 ≡ false) where
-    pub letter_none : (t : Option ℕ) → None ≡ slice_get s 0 → t ≡ None → t ≡ walk (p ∷ []) done s
+-- a letter, by `first`
+module _ (s : List ℕ) (p : ℕ) (ne : eqb p 32 ≡ false) where
+  pub letter_none : (t : Option ℕ) → None ≡ slice_get s 0 → t ≡ None → t ≡ walk (p ∷ []) done s
+  unfolding walk one
+  letter_none t n e = e ∙ go s n
+    where
+      go : (s : List ℕ) → None ≡ slice_get s 0 → None ≡ walk (p ∷ []) done s
+      go [] q = rw ne
+      go (b ∷ s) q = absurd (let z : ⊥ = cc in z)
+
+  module _ (b x : ℕ) (first : Some b ≡ slice_get s 0) (c : x ≡ to_ascii_uppercase b) where
+    letter_there : walk (p ∷ []) done s ≡ cond (eqb x p) (Some 1) None
     unfolding walk one
-    letter_none t n e = e ∙ go s n
+    letter_there = rw (c, upper b) (go s first)
       where
-        go : (s : List ℕ) → None ≡ slice_get s 0 → None ≡ walk (p ∷ []) done s
-        go [] q = rw ne
-        go (b ∷ s) q = absurd (let z : ⊥ = cc in z)
+        go : (s : List ℕ) → Some b ≡ slice_get s 0 → walk (p ∷ []) done s ≡ cond (eqb (capital b) p) (Some 1) None
+        go [] q = absurd (let z : ⊥ = cc in z)
+        go (a ∷ s) q =
+            let k : b ≡ a = cc in
+            rw (ne, k)
 
-    module _ (b x : ℕ) (first : Some b ≡ slice_get s 0) (c : x ≡ capital b) where
-      pub letter_taken : x ≡ p → Some 1 ≡ walk (p ∷ []) done s
-      unfolding walk one
-      letter_taken e = go s first
-        where
-          go : (s : List ℕ) → Some b ≡ slice_get s 0 → Some 1 ≡ walk (p ∷ []) done s
-          go [] q = absurd (let z : ⊥ = cc in z)
-          go (a ∷ s) q =
-              let k : b ≡ a = cc in
-              rw (ne, ← k, ← c, eq-eqb x p e)
+    pub letter_taken : x ≡ p → Some 1 ≡ walk (p ∷ []) done s
+    letter_taken e = sym (rw (letter_there, eq-eqb x p e))
 
-      pub letter_other : (x ≡ p → ⊥) → None ≡ walk (p ∷ []) done s
-      unfolding walk one
-      letter_other e = go s first
-        where
-          go : (s : List ℕ) → Some b ≡ slice_get s 0 → None ≡ walk (p ∷ []) done s
-          go [] q = absurd (let z : ⊥ = cc in z)
-          go (a ∷ s) q =
-              let k : b ≡ a = cc in
-              rw (ne, ← k, ← c, ne_eqb x p e)
+    pub letter_other : (x ≡ p → ⊥) → None ≡ walk (p ∷ []) done s
+    letter_other e = sym (rw (letter_there, ne_eqb x p e))
 
 -- n bytes of words, so the rest has them
 pub words_inside : (words s : List ℕ) (n : ℕ) → Some n ≡ walk words done s → n ≤ length s
@@ -182,15 +181,19 @@ exists_inside s = rw (optional_is s) (go (walk (bytes " IF EXISTS") done s) (wal
     go None h = end_of_word_inside s
 
 module _ (s : List ℕ) (from : ℕ) where
-  module _ (n : ℕ) (e : Some n ≡ walk (bytes " IF EXISTS") done (drop from s)) (u : Option ℕ) (g : u ≡ end_of_word (take (length s - (from + n)) (drop (from + n) s))) where
-    pub exists_yes : (t : Option ℕ) → t ≡ more n u → t ≡ if_exists (drop from s)
-    exists_yes t k = k ∙ rw (optional_is (drop from s), ← e, g, part_end s (from + n), drop-drop n from s)
+  module _ (n : ℕ) (e : Some n ≡ walk (bytes " IF EXISTS") done (drop from s)) (x : List ℕ) (g : x ≡ take (length s - (from + n)) (drop (from + n) s)) where
+    exists_is : if_exists (drop from s) ≡ more n (end_of_word x)
+    exists_is = rw (optional_is (drop from s), ← e, g, part_end s (from + n), drop-drop n from s)
 
-    pub exists_fits : from ≤ length s → length s < 2 ^ 64 → n + taken u < 2 ^ 64
-    exists_fits h l =
-        let k = words_fit (bytes " IF EXISTS") s from n e h in
-        let f = fits_more end_of_word end_of_word_inside s (from + n) u g k l in
-        omega arith
+    module _ (u : Option ℕ) (h : u ≡ end_of_word x) where
+      pub exists_more : (t : Option ℕ) → t ≡ more n u → t ≡ if_exists (drop from s)
+      exists_more t q = q ∙ sym (rw (exists_is, ← h))
+
+      pub exists_fits : from ≤ length s → length s < 2 ^ 64 → n + taken u < 2 ^ 64
+      exists_fits f l =
+          let k = words_fit (bytes " IF EXISTS") s from n e f in
+          let i : taken u ≤ length x = rw h (end_of_word_inside x) in
+          omega (arith, length-drop (from + n) s, ap length g, ap length (part_end s (from + n)))
 
   pub exists_no : None ≡ walk (bytes " IF EXISTS") done (drop from s) → (u : Option ℕ) → u ≡ end_of_word (take (length s - from) (drop from s)) → u ≡ if_exists (drop from s)
   exists_no e u g = g ∙ rw (optional_is (drop from s), ← e, part_end s from)
@@ -208,13 +211,18 @@ pub entry_no : (group : Group) (words s : List ℕ) (t : Option ℕ) → t ≡ N
 unfolding entry_end
 entry_no group words s t q e = q ∙ sym (walk_and words (ending group) s ∙ rw (← e))
 
-module _ (group : Group) (words s : List ℕ) (n : ℕ) (e : Some n ≡ walk words done s) (u : Option ℕ) (g : u ≡ ending group (drop n s)) where
-  pub entry_yes : (t : Option ℕ) → t ≡ more n u → t ≡ entry_end group words s
+-- in the rest as it is behind a call
+module _ (group : Group) (words s : List ℕ) (n : ℕ) (e : Some n ≡ walk words done s) (r : List ℕ) (k : r ≡ s) where
+  entry_is : entry_end group words s ≡ more n (ending group (drop n r))
   unfolding entry_end
-  entry_yes t k = k ∙ rw (walk_and words (ending group) s, ← e, g)
+  entry_is = walk_and words (ending group) s ∙ rw (← e, k)
 
-  pub entry_fits : length s < 2 ^ 64 → n + taken u < 2 ^ 64
-  entry_fits l =
-      let k = words_inside words s n e in
-      let m : taken u ≤ length (drop n s) = rw g (ending_inside group (drop n s)) in
-      omega (arith, length-drop n s)
+  module _ (u : Option ℕ) (h : u ≡ ending group (drop n r)) where
+    pub entry_more : (t : Option ℕ) → t ≡ more n u → t ≡ entry_end group words s
+    entry_more t q = q ∙ sym (rw (entry_is, ← h))
+
+    pub entry_fits : length s < 2 ^ 64 → n + taken u < 2 ^ 64
+    entry_fits l =
+        let i = words_inside words s n e in
+        let j : taken u ≤ length (drop n r) = rw h (ending_inside group (drop n r)) in
+        omega (arith, length-drop n r, ap length k)

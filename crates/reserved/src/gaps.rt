@@ -24,6 +24,7 @@ pub struct Gaps<'a> {
 impl<'a> Gaps<'a> {
     // No gap stands at the end.
     #[inline(always)]
+    #[tactic(auto, using(crate::proofs::NoGap::none_measured))]
     pub fn none(rest: &'a [u8]) -> Self
         ensures { result.rest.now ≡ rest.now }
     {

@@ -1,6 +1,6 @@
 -- For inner contracts alone: what looks that failed tell of later ones, so that none is made twice. A hint is a length and speaks of
 -- the rests of a text that are no longer; so it holds of the text and of all its rests at once.
-use Rattle.std.specs.Prelude.{ℕ, ◌≤◌, ◌≡◌, false, List, length, drop, None}
+use Rattle.std.specs.Prelude.{ℕ, ◌≤◌, ◌-◌, ◌≡◌, false, List, length, drop, None}
 use Rattle.recognisers.specs.declared.hints.Hints.{Hints}
 use Rattle.recognisers.specs.Text.{byte, bytes}
 use Rattle.recognisers.specs.Taking.{Taker, starts_with}
@@ -15,6 +15,11 @@ pub record Known (desired : ℕ) (escapes s : List ℕ) (known : ℕ) : Type 0 w
 -- the taker fails on the rests of s that have from `least` to `most` bytes
 pub record Barren (taker : Taker) (s : List ℕ) (least most : ℕ) : Type 0 where
   pub fails : (q : ℕ) → least ≤ length (drop q s) → length (drop q s) ≤ most → taker (drop q s) ≡ None
+
+-- what is known with a look at the rest of s from a place on: as before, or that this rest fails
+pub data Looked (fails : List ℕ → Type 0) (s : List ℕ) (from known : ℕ) : ℕ → Type 0 where
+  before : Looked fails s from known known
+  failed : from ≤ length s → fails (drop from s) → Looked fails s from known (length s - from)
 
 -- nothing is known at first
 abbrev pub nothing_known : Hints

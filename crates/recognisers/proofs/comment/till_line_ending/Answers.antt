@@ -5,8 +5,8 @@ use Rattle.recognisers.proofs.comment.till_line_ending.Goals as goal
 pub returns-in_default : goal.returns-in_default
 returns-in_default c = search (rules, line_end)
 
-pub returns-then-is_lone_return : goal.returns-then-is_lone_return
-returns-then-is_lone_return c = search (rules, line_refused)
+pub returns-then-is_lone : goal.returns-then-is_lone
+returns-then-is_lone c = search (rules, line_refused)
 
 pub returns : goal.returns
 returns c = search (rules, line_taken)

@@ -5,8 +5,8 @@ use Rattle.recognisers.proofs.placeholders.braced_text.Goals as goal
 pub returns-then-stands_at : goal.returns-then-stands_at
 returns-then-stands_at c = search brace_first
 
-pub returns-then-rest-hints : goal.returns-then-rest-hints
-returns-then-rest-hints c = search brace_unclosed
+pub returns-then-rest : goal.returns-then-rest
+returns-then-rest c = search (brace_unclosed _ _ c.args.rest.truthful)
 
 pub returns : goal.returns
 returns c = search brace_later

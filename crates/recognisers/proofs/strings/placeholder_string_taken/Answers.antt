@@ -1,17 +1,25 @@
+use Rattle.std.proofs.Common.{rules}
+use Rattle.recognisers.proofs.FirstBytes.{no_named_string, first_is}
 use Rattle.recognisers.proofs.StringOpeners.{named_single_is, named_double_is, named_tick_is, named_bracket_is, named_other_is}
 use Rattle.recognisers.proofs.strings.placeholder_string_taken.Goals as goal
 
-pub returns-then-stands_at : goal.returns-then-stands_at
-returns-then-stands_at c = search named_single_is
+pub returns-in_err-first : goal.returns-in_err-first
+returns-in_err-first c = search (rules, no_named_string)
 
-pub returns-then-stands_at-2 : goal.returns-then-stands_at-2
-returns-then-stands_at-2 c = search named_double_is
+pub returns-in-39 : goal.returns-in-39
+returns-in-39 c = named_single_is _ _ _ _ c.in_ok-first.ensures.1 c.in-39.is c.quoted.ensures
 
-pub returns-then-stands_at-3 : goal.returns-then-stands_at-3
-returns-then-stands_at-3 c = search named_tick_is
+pub returns-in-34 : goal.returns-in-34
+returns-in-34 c = named_double_is _ _ _ _ c.in_ok-first.ensures.1 c.in-34.is c.quoted-in-34.ensures
 
-pub returns-then-stands_at-4 : goal.returns-then-stands_at-4
-returns-then-stands_at-4 c = search named_bracket_is
+pub returns-in-96 : goal.returns-in-96
+returns-in-96 c = named_tick_is _ _ _ _ c.in_ok-first.ensures.1 c.in-96.is c.quoted-in-96.ensures
 
-pub returns : goal.returns
-returns c = search named_other_is
+pub bracketed-requires : goal.bracketed-requires
+bracketed-requires c = first_is _ _ _ c.in_ok-first.ensures.1 c.in-91.is
+
+pub returns-in-91 : goal.returns-in-91
+returns-in-91 c = named_bracket_is _ _ _ _ c.in_ok-first.ensures.1 c.in-91.is c.bracketed.ensures
+
+pub returns-in_default : goal.returns-in_default
+returns-in_default c = search (named_other_is, c.in_ok-first.ensures)
