@@ -3,3 +3,4 @@ pub mod Checks
 pub mod TextCalls
 pub mod Storing
 pub mod NumberBytes
+pub mod Words

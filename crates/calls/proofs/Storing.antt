@@ -36,10 +36,3 @@ module _ (start len : ℕ) where
 
   pub part_length_lem : (source : List ℕ) → start + len ≤ length source → length (take len (drop start source)) ≡ len
   part_length_lem source h = length-take-le len (drop start source) (rw length-drop (omega arith))
-
-  module _ (source output : List ℕ) (at : ℕ) where
-    pub part_room : start + len ≤ length source → at + len ≤ length output → at + length (take (start + len - start) (drop start source)) ≤ length output
-    part_room h k = rw (back, part_length_lem source h) k
-
-    pub part_put : (after : List ℕ) → after ≡ sets output at (take (start + len - start) (drop start source)) → after ≡ sets output at (take len (drop start source))
-    part_put after e = e ∙ rw back

@@ -1,53 +1,18 @@
--- The answer of a call that writes a text, as its code has it; the text lies inside the output.
+-- What a call says that it wrote lies inside the output.
 -- Assumes nothing.
 use Rattle.std.specs.Prelude.{Result, Ok, Err}
-use Prim.Native.Nat.{ℕ, ◌≤◌, ◌<◌}
+use Prim.Native.Nat.{ℕ, ◌≤◌}
 use native.Mathlib.Omega.{arith}
 use mathlib.Core.Path.{◌≡◌, refl, sym, ◌∙◌}
-use mathlib.Core.List.{List, ◌++◌}
+use mathlib.Core.List.{List}
 use mathlib.Core.Bool.{Bool, true, false}
-use borrow.Author.Tests.{lt-ltb, le-ltb, ltb-false}
+use borrow.Author.Tests.{ltb-false}
 use lib.Dec.{ltb}
-use lib.ListN.{length, drop, length-append, length-drop}
+use lib.ListN.{length, length-append, length-drop}
 use Rattle.calls.specs.declared.Refusal.{Refusal}
 use Rattle.calls.specs.declared.Refusal.TheVariants.{OutputFull}
 use Rattle.calls.specs.declared.Settings.{Settings}
 use Rattle.calls.specs.Texts.{text_answer, text_after, call_answer, call_output}
-
--- ---- a text of known length
-
-module _ (text output : List ℕ) (n : ℕ) (c : n ≡ length text) where
-  pub full_answer : length output < n → Err (OutputFull n) ≡ text_answer text (length output)
-  unfolding text_answer
-  full_answer f = rw (← c, lt-ltb _ _ f)
-
-  pub full_output : length output < n → output ≡ text_after text output
-  unfolding text_after
-  full_output f = rw (← c, lt-ltb _ _ f)
-
-  pub written_room : n ≤ length output → length text ≤ length output
-  written_room f = rw (← c) f
-
-  pub written_answer : (m : ℕ) → n ≤ length output → m ≡ length text → Ok m ≡ text_answer text (length output)
-  unfolding text_answer
-  written_answer m f e = rw (e, ← c, le-ltb _ _ f)
-
-  pub written_output : (after : List ℕ) → n ≤ length output → after ≡ text ++ drop (length text) output → after ≡ text_after text output
-  unfolding text_after
-  written_output after f e = e ∙ rw (← c, le-ltb _ _ f)
-
--- with as much room as the text can take
-module _ (text output : List ℕ) (most : ℕ) (short : length text ≤ most) (f : most ≤ length output) where
-  pub most_room : length text ≤ length output
-  most_room = omega arith
-
-  pub most_answer : (n : ℕ) → n ≡ length text → Ok n ≡ text_answer text (length output)
-  most_answer n c = written_answer text output (length text) refl n most_room c
-
-  pub most_output : (after : List ℕ) → after ≡ text ++ drop (length text) output → after ≡ text_after text output
-  most_output after e = written_output text output (length text) refl after most_room e
-
--- ---- where a text was written it lies inside the output
 
 text_inside : (text : List ℕ) (room n : ℕ) → text_answer text room ≡ Ok n → n ≤ room
 unfolding text_answer

@@ -3,6 +3,7 @@ use Rattle.std.specs.Prelude.{ℕ, cond, List, ltb, length, Option, Some, None, 
 use Rattle.characters.specs.Utf8.{first_ill_formed}
 use Rattle.calls.specs.declared.Refusal.{Refusal}
 use Rattle.calls.specs.declared.Refusal.TheVariants.{Overlong, NotUtf8, Setting}
+use Rattle.calls.specs.declared.Search.{Search}
 use Rattle.calls.specs.declared.Settings.{Settings}
 use Rattle.calls.specs.Refusals.{refusal_number, refusal_detail}
 use Rattle.calls.specs.Settings.{is_setting, settings_of}
@@ -20,6 +21,11 @@ checked_text settings s = cond (ltb longest (length s)) (Err (Overlong (length s
 
 unfoldable pub checked : ℕ → ℕ → ℕ → List ℕ → Result Settings Refusal
 checked dialect joins named s = cond (is_setting dialect joins named) (checked_text (settings_of dialect joins named) s) (Err Setting)
+
+-- the settings in what `check` answers
+abbrev pub settings_found : Result Search Refusal → Result Settings Refusal
+settings_found (Ok search) = Ok search.settings
+settings_found (Err refusal) = Err refusal
 
 -- what is made of the settings where the call is accepted, and of the refusal where it is not
 abbrev pub accepted_or : {A : Type 0} → (Settings → A) → (Refusal → A) → Result Settings Refusal → A

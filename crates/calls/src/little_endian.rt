@@ -1,7 +1,7 @@
 // Numbers of so many bytes, the lowest first.
-ghost use Rattle.std.specs.Prelude.{◌≡◌, ◌+◌, ◌^◌, ◌≤◌, ◌<◌, length};
+ghost use Rattle.std.specs.Prelude.{◌≡◌, ◌+◌, ◌*◌, ◌^◌, ◌≤◌, ◌<◌, length};
 ghost use Rattle.std.proofs.lemmas.List.Edits.{sets};
-ghost use Rattle.calls.specs.LittleEndian.{low_bytes, number_at};
+ghost use Rattle.calls.specs.LittleEndian.{low_bytes, number_at, words_of};
 
 use crate::copying::put_bytes;
 
@@ -16,7 +16,20 @@ pub fn put_le<const N: usize>(bytes: &mut [u8], at: usize, n: u64)
     put_bytes(&low[..N], bytes, at);
 }
 
+// Words of 32 bits, one behind the other.
 #[inline(always)]
+#[tactic(auto, using(crate::proofs::Words::words_start, crate::proofs::Words::words_more))]
+pub fn put_words(bytes: &mut [u8], at: usize, words: &[u64])
+    requires { at + 4 * length words.now ≤ length bytes.old }
+    ensures { bytes.new ≡ sets bytes.old at (words_of words.now) }
+{
+    for (i, word) in words.iter().enumerate() {
+        put_le::<4>(bytes, at + 4 * i, *word);
+    }
+}
+
+#[inline(always)]
+#[tactic(auto, using(crate::proofs::NumberBytes::filled, crate::proofs::NumberBytes::number_below))]
 pub fn le_at<const N: usize>(bytes: &[u8], at: usize) -> usize
     requires width { N ≤ 8 }
     requires in_bounds { at + N ≤ length bytes.now }

@@ -14,8 +14,7 @@ use mir.Val.{Fits}
 use Rattle.params.specs.declared.Lengths.{Lengths}
 use Rattle.params.specs.declared.Place.{Place}
 use Rattle.params.specs.Sheet.{count_of, width, lengths_at, past, place_of, fills_exactly, is_sheet_length, is_kind_and_count, is_sheet, bodies_are_utf8}
-use Rattle.params.proofs.SheetContents.{either_width}
-use Rattle.params.proofs.SheetEntries.{place_entry, body_up_to, bodies_start, lengths_before}
+use Rattle.params.proofs.SheetEntries.{either_width, place_entry, body_up_to, bodies_start, lengths_before}
 
 left_true : (a b : Bool) → (a && b) ≡ true → a ≡ true
 left_true true b e = refl
@@ -34,13 +33,6 @@ module _ (sheet : List ℕ) where
     rest_good : (is_kind_and_count sheet && (fills_exactly sheet && bodies_are_utf8 sheet (count_of sheet))) ≡ true
     unfolding is_sheet
     rest_good = right_true (is_sheet_length (length sheet)) _ good
-
-    pub sheet_long : 2 < length sheet
-    unfolding is_sheet_length
-    sheet_long = let h = leb-true 3 (length sheet) (left_true (leb 3 (length sheet)) _ length_good) in omega arith
-
-    pub sheet_some : 0 < length sheet
-    sheet_some = omega (arith, sheet_long)
 
     pub sheet_short : length sheet ≤ 65536
     unfolding is_sheet_length

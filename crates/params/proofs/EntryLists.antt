@@ -48,25 +48,25 @@ module _ (sheet : List ℕ) where
 
 module _ (es : Entries) where
   -- none is left
-  pub none_left : (n : ℕ) → n ≡ count_of es.sheet.bytes.now → n ≤ es.place.entry → entries_left es ≡ []
+  pub none_left : (n : ℕ) → n ≡ count_of es.sheet.headed.bytes.now → n ≤ es.place.entry → entries_left es ≡ []
   unfolding entries_left entries_from
-  none_left n e h = let d : count_of es.sheet.bytes.now - es.place.entry ≡ 0 = omega arith in rw d
+  none_left n e h = let d : count_of es.sheet.headed.bytes.now - es.place.entry ≡ 0 = omega arith in rw d
 
   -- the first, and the others
-  pub some_left : (es' : Entries) (n : ℕ) (x : List ℕ × Part) → n ≡ count_of es.sheet.bytes.now → es.place.entry < n → es'.sheet ≡ es.sheet
-      → es'.place ≡ past es.sheet.bytes.now es.place → x ≡ entry es.sheet.bytes.now es.place.entry → entries_left es ≡ x ∷ entries_left es'
+  pub some_left : (es' : Entries) (n : ℕ) (x : List ℕ × Part) → n ≡ count_of es.sheet.headed.bytes.now → es.place.entry < n → es'.sheet ≡ es.sheet
+      → es'.place ≡ past es.sheet.headed.bytes.now es.place → x ≡ entry es.sheet.headed.bytes.now es.place.entry → entries_left es ≡ x ∷ entries_left es'
   unfolding entries_left entries_from past
   some_left es' n x e h k l f =
-      let sheet : List ℕ = es.sheet.bytes.now in
+      let sheet : List ℕ = es.sheet.headed.bytes.now in
       let i : es'.place.entry ≡ es.place.entry + 1 = ap (λ (p : Place). p.entry) l in
       let d : count_of sheet - es.place.entry ≡ suc (count_of sheet - suc es.place.entry) = omega arith in
       let others : entries_left es' ≡ entries_from sheet (suc es.place.entry) (count_of sheet - suc es.place.entry) =
-      ap (λ (q : Sheet). entries_from q.bytes.now es'.place.entry (count_of q.bytes.now - es'.place.entry)) k
+      ap (λ (q : Sheet). entries_from q.headed.bytes.now es'.place.entry (count_of q.headed.bytes.now - es'.place.entry)) k
       ∙ ap (λ (m : ℕ). entries_from sheet m (count_of sheet - m)) (i ∙ add-one es.place.entry) in
       rw (d, f, others)
 
-  pub some_less : (es' : Entries) (n : ℕ) (x : List ℕ × Part) → n ≡ count_of es.sheet.bytes.now → es.place.entry < n → es'.sheet ≡ es.sheet
-      → es'.place ≡ past es.sheet.bytes.now es.place → x ≡ entry es.sheet.bytes.now es.place.entry → length (entries_left es') < length (entries_left es)
+  pub some_less : (es' : Entries) (n : ℕ) (x : List ℕ × Part) → n ≡ count_of es.sheet.headed.bytes.now → es.place.entry < n → es'.sheet ≡ es.sheet
+      → es'.place ≡ past es.sheet.headed.bytes.now es.place → x ≡ entry es.sheet.headed.bytes.now es.place.entry → length (entries_left es') < length (entries_left es)
   some_less es' n x e h k l f = let d : length (entries_left es) ≡ suc (length (entries_left es')) = ap length (some_left es' n x e h k l f) in omega arith
 
 -- ---- from a number on
@@ -84,27 +84,27 @@ module _ (sheet : List ℕ) where
   unfolding entries
   from_number n h = sym (entries_past sheet (count_of sheet) 0 n h ∙ (let z : 0 + n ≡ n = omega arith in rw z))
 
-pub left_from : (es : Entries) (m n k : ℕ) → es.place ≡ place_of es.sheet.bytes.now m → k ≡ count_of es.sheet.bytes.now → m ≡ min k n
-    → entries_left es ≡ drop n (entries es.sheet.bytes.now)
+pub left_from : (es : Entries) (m n k : ℕ) → es.place ≡ place_of es.sheet.headed.bytes.now m → k ≡ count_of es.sheet.headed.bytes.now → m ≡ min k n
+    → entries_left es ≡ drop n (entries es.sheet.headed.bytes.now)
 unfolding entries_left
-left_from es m n c e d f = rw (entry_of es.sheet.bytes.now es.place m e) (go (leb n (count_of es.sheet.bytes.now)) refl)
+left_from es m n c e d f = rw (entry_of es.sheet.headed.bytes.now es.place m e) (go (leb n (count_of es.sheet.headed.bytes.now)) refl)
   where
-    go : (b : Bool) → leb n (count_of es.sheet.bytes.now) ≡ b
-        → entries_from es.sheet.bytes.now m (count_of es.sheet.bytes.now - m) ≡ drop n (entries es.sheet.bytes.now)
+    go : (b : Bool) → leb n (count_of es.sheet.headed.bytes.now) ≡ b
+        → entries_from es.sheet.headed.bytes.now m (count_of es.sheet.headed.bytes.now - m) ≡ drop n (entries es.sheet.headed.bytes.now)
     go true g =
-        let h : n ≤ count_of es.sheet.bytes.now = leb-true n (count_of es.sheet.bytes.now) g in
+        let h : n ≤ count_of es.sheet.headed.bytes.now = leb-true n (count_of es.sheet.headed.bytes.now) g in
         let k : m ≡ n = omega arith in
-        rw k (from_number es.sheet.bytes.now n h)
+        rw k (from_number es.sheet.headed.bytes.now n h)
     go false g =
-        let h : count_of es.sheet.bytes.now < n = leb-false n (count_of es.sheet.bytes.now) g in
-        let k : m ≡ count_of es.sheet.bytes.now = omega arith in
-        rw k (from_number es.sheet.bytes.now (count_of es.sheet.bytes.now) (omega arith)
-        ∙ none_behind es.sheet.bytes.now (count_of es.sheet.bytes.now) (omega arith)
-        ∙ sym (none_behind es.sheet.bytes.now n (omega arith)))
+        let h : count_of es.sheet.headed.bytes.now < n = leb-false n (count_of es.sheet.headed.bytes.now) g in
+        let k : m ≡ count_of es.sheet.headed.bytes.now = omega arith in
+        rw k (from_number es.sheet.headed.bytes.now (count_of es.sheet.headed.bytes.now) (omega arith)
+        ∙ none_behind es.sheet.headed.bytes.now (count_of es.sheet.headed.bytes.now) (omega arith)
+        ∙ sym (none_behind es.sheet.headed.bytes.now n (omega arith)))
 
-pub left_all : (es : Entries) → es.place ≡ place_of es.sheet.bytes.now 0 → entries_left es ≡ entries es.sheet.bytes.now
+pub left_all : (es : Entries) → es.place ≡ place_of es.sheet.headed.bytes.now 0 → entries_left es ≡ entries es.sheet.headed.bytes.now
 unfolding entries_left entries
-left_all es e = rw (entry_of es.sheet.bytes.now es.place 0 e) (let z : count_of es.sheet.bytes.now - 0 ≡ count_of es.sheet.bytes.now = omega arith in rw z)
+left_all es e = rw (entry_of es.sheet.headed.bytes.now es.place 0 e) (let z : count_of es.sheet.headed.bytes.now - 0 ≡ count_of es.sheet.headed.bytes.now = omega arith in rw z)
 
 -- ---- the value of entry number n
 

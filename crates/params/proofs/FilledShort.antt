@@ -1,20 +1,17 @@
 -- A filled text is no longer than the statement's length times that of the longest value: with so much room one pass is enough.
 -- Assumes nothing.
-use Rattle.std.specs.Prelude.{Ok}
 use Prim.Native.Nat.{ℕ, ◌+◌, ◌*◌, ◌≤◌}
 use native.Mathlib.Nat.{le_trans, mul-one, one-mul, mul-le-mul, mul-le-mul_left, mul-le-mul_right}
 use native.Mathlib.Omega.{arith}
 use mathlib.Core.Path.{◌≡◌, refl}
 use mathlib.Core.Bool.{Bool, true, false}
-use mathlib.Core.List.{List, ◌++◌}
+use mathlib.Core.List.{List}
 use borrow.Author.Tests.{ltb-true}
 use lib.Dec.{ltb}
-use lib.ListN.{length, drop}
+use lib.ListN.{length}
 use mir.Syntax.{w64}
 use mir.Val.{Fits}
 use Rattle.calls.specs.declared.Settings.{Settings}
-use Rattle.calls.specs.Texts.{text_answer, text_after}
-use Rattle.calls.proofs.TextCalls.{most_room, most_answer, most_output}
 use Rattle.tokenizer.specs.declared.Token.{Token}
 use Rattle.tokenizer.proofs.Walks.{text_by_bytes}
 use Rattle.params.specs.Sheet.{count_of, is_sheet}
@@ -63,18 +60,3 @@ module _ (s sheet : List ℕ) where
   pub most_is : (n : ℕ) → n ≡ longest_value sheet → length s * n ≡ most_filled s sheet
   unfolding most_filled
   most_is n e = rw e
-
-  -- ---- with so much room
-
-  module _ (settings : Settings) (output : List ℕ) (good : is_sheet sheet ≡ true) (most : ℕ) (e : most ≡ most_filled s sheet) (f : most ≤ length output) where
-    short : length (filled settings s sheet) ≤ most
-    short = rw e (filled_short good settings)
-
-    pub one_pass_room : length (filled settings s sheet) ≤ length output
-    one_pass_room = most_room (filled settings s sheet) output most short f
-
-    pub one_pass_answer : (n : ℕ) → n ≡ length (filled settings s sheet) → Ok n ≡ text_answer (filled settings s sheet) (length output)
-    one_pass_answer = most_answer (filled settings s sheet) output most short f
-
-    pub one_pass_output : (after : List ℕ) → after ≡ filled settings s sheet ++ drop (length (filled settings s sheet)) output → after ≡ text_after (filled settings s sheet) output
-    one_pass_output = most_output (filled settings s sheet) output most short f

@@ -1,16 +1,17 @@
 -- A key's text, compared and measured.
 -- Assumes nothing.
-use Prim.Native.Nat.{ℕ, suc, ◌+◌, ◌≤◌}
+use Prim.Native.Nat.{ℕ, suc, ◌+◌, ◌-◌, ◌≤◌}
+use native.Mathlib.Nat.{le_refl}
 use native.Mathlib.Omega.{arith}
 use mathlib.Core.Path.{◌≡◌, refl, sym, ◌∙◌}
 use mathlib.Core.Bool.{Bool, true, false, ◌&&◌, false≢true}
 use mathlib.Core.List.{List, [], ◌∷◌}
-use borrow.Author.Tests.{lt-ltb, eq-eqb, ne_eqb}
+use borrow.Author.Tests.{lt-ltb, ne_eqb}
 use lib.Dec.{ltb, eqb}
 use lib.ListN.{length, take, drop, get_or, length-drop}
 use lib.Seq.{length-take-le}
 use Rattle.std.specs.Prelude.{Option, Some}
-use Rattle.std.proofs.lemmas.List.{nil_from_length}
+use Rattle.std.proofs.lemmas.List.{nil_from_length, take_all}
 use Rattle.recognisers.specs.declared.Key.{Key}
 use Rattle.recognisers.specs.declared.Key.TheVariants.{Named, Escaped}
 use Rattle.recognisers.specs.Text.{byte}
@@ -18,7 +19,7 @@ use Rattle.recognisers.specs.Taking.{starts_with}
 use Rattle.recognisers.specs.Same.{same}
 use Rattle.tokenizer.specs.KeyText.{unescaped}
 use Rattle.params.specs.Keys.{has_name}
-use Rattle.params.specs.Inner.Inside.{key_end}
+use Rattle.tokenizer.specs.Inner.Inside.{key_end}
 
 -- ---- the text with escapes undone, from a byte on
 
@@ -57,6 +58,12 @@ unfolding same
 same_nothing [] = refl
 same_nothing (b ∷ name) = ne_eqb (suc (length name)) 0 (λ (e : suc (length name) ≡ 0). let z : ⊥ = omega arith in z)
 
+-- a byte stands first in some name alone
+pub some_name : (b : ℕ) (name : List ℕ) (k : Bool) → k ≡ starts_with b name → k ≡ true → 1 ≤ length name
+unfolding starts_with
+some_name b [] k e f = absurd (false≢true (sym e ∙ f))
+some_name b (c ∷ name) k e f = omega arith
+
 -- what is left of the name and of the text compares as the whole does
 module _ (whole : Bool) (name text : List ℕ) (quote : ℕ) (at : whole ≡ same name (unescaped quote text)) where
   module _ (b : ℕ) (rest : List ℕ) (e : text ≡ b ∷ rest) (t : Bool) (f : t ≡ (eqb b (byte "\\") && starts_with quote rest)) where
@@ -67,18 +74,21 @@ module _ (whole : Bool) (name text : List ℕ) (quote : ℕ) (at : whole ≡ sam
       here : whole ≡ same name (b ∷ unescaped quote rest)
       here = at ∙ rw (e, stays quote b rest (sym f ∙ g))
 
-      pub compare_none : length name ≡ 0 → false ≡ whole
-      unfolding same
-      compare_none h = sym (here ∙ (let z : name ≡ [] = nil_from_length name h in rw z))
+      pub compare_fails : (k : Bool) → k ≡ starts_with b name → k ≡ false → false ≡ whole
+      unfolding same starts_with
+      compare_fails k h l = sym (here ∙ other name (sym h ∙ l))
+        where
+          other : (n : List ℕ) → starts_with b n ≡ false → same n (b ∷ unescaped quote rest) ≡ false
+          other [] m = refl
+          other (c ∷ n) m = rw m
 
-      module _ (c : ℕ) (others : List ℕ) (h : name ≡ c ∷ others) where
-        pub compare_more : c ≡ b → whole ≡ same others (unescaped quote rest)
-        unfolding same
-        compare_more k = here ∙ rw (h, eq-eqb c b k)
-
-        pub compare_fails : (c ≡ b → ⊥) → false ≡ whole
-        unfolding same
-        compare_fails k = sym (here ∙ rw (h, ne_eqb c b k))
+      pub compare_more : (k : Bool) → k ≡ starts_with b name → k ≡ true → whole ≡ same (take (length name - 1) (drop 1 name)) (unescaped quote rest)
+      unfolding same starts_with
+      compare_more k h l = here ∙ one name (sym h ∙ l)
+        where
+          one : (n : List ℕ) → starts_with b n ≡ true → same n (b ∷ unescaped quote rest) ≡ same (take (length n - 1) (drop 1 n)) (unescaped quote rest)
+          one [] m = absurd (false≢true m)
+          one (c ∷ n) m = let l : length (c ∷ n) - 1 ≡ length n = omega arith in rw (m, l, take_all (length n) n (le_refl (length n)))
 
   pub compare_end : length text ≡ 0 → eqb (length name) 0 ≡ whole
   unfolding unescaped

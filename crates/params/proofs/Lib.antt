@@ -1,5 +1,4 @@
 -- Laws that the proofs cite, and theorems on the definitions.
-pub mod SheetContents
 pub mod SheetEntries
 pub mod EntriesInside
 pub mod EntryLists
@@ -11,7 +10,6 @@ pub mod FillWalk
 pub mod LongestValues
 pub mod FilledShort
 pub mod PartBytes
-pub mod FillAnswers
 pub mod Lookups
 pub mod FillIsLookups
 pub mod UntakenValues

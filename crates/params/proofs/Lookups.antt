@@ -9,17 +9,20 @@ use lib.ListN.{length, drop}
 use Rattle.calls.specs.declared.Refusal.{Refusal}
 use Rattle.calls.specs.declared.Settings.{Settings}
 use Rattle.tokenizer.specs.declared.Token.{Token}
-use Rattle.calls.specs.Refusals.{refusal_number, refusal_detail}
+use Rattle.calls.specs.Checks.{accepted_or, told_number, told_detail}
+use Rattle.calls.specs.Texts.{text_number, text_detail}
 use Rattle.tokenizer.specs.Tokens.{tokens}
-use Rattle.std.specs.Prelude.{Result, Ok, Err, Option, Some, None, slice_get}
-use Rattle.tokenizer.proofs.EachToken.{Each, each_inside}
+use Rattle.std.specs.Prelude.{Result, Ok, Err, Option, Some, None, slice_get, IfOk}
+use Rattle.std.specs.Result.{result_unwrap_or}
+use Rattle.tokenizer.proofs.EachToken.{Each, each_inside, each_key}
 use Rattle.params.specs.declared.Found.{Found}
-use Rattle.params.specs.declared.Part.TheVariants as P
 use Rattle.params.specs.Sheet.{is_sheet}
-use Rattle.params.specs.Inner.Inside.{key_end, PartInside}
+use Rattle.tokenizer.specs.Inner.Inside.{key_end}
+use Rattle.params.specs.Inner.Inside.{PartInside}
 use Rattle.params.specs.Filled.{stands_for, part_length}
-use Rattle.params.specs.Answers.{checked_with, nothing_found, found_for, found_first, found_at, lookup_found, lookup_part, lookup_counter, lookup_number, lookup_detail}
-use Rattle.params.proofs.TokensInside.{each_key, stands_inside}
+use Rattle.params.specs.Inner.Lookups.{looked_up, length_of}
+use Rattle.params.specs.Answers.{checked_with, nothing_found, found_for, found_first, found_at, lookup_found, lookup_number, lookup_detail}
+use Rattle.params.proofs.TokensInside.{stands_inside}
 
 -- ---- the token at a place
 
@@ -74,48 +77,42 @@ module _ (settings : Settings) (s : List ℕ) (place : ℕ) (r : Option Token) (
 
 -- ---- what is told
 
-module _ (s : List ℕ) (dialect joins named : ℕ) (sheet : List ℕ) (r : Result Settings Refusal) (e : r ≡ checked_with s dialect joins named sheet) where
-  module _ (settings : Settings) (k : r ≡ Ok settings) where
-    pub accepted_number : 0 ≡ lookup_number s dialect joins named sheet
+module _ (s : List ℕ) (dialect joins named : ℕ) (sheet : List ℕ) (place counter : ℕ) (answer : Result Found Refusal) (e : answer ≡ looked_up s dialect joins named sheet place counter) where
+  -- an answer, by the two cases of the check
+  by_check : (P : Result Settings Refusal → Result Found Refusal → Type 0) → ((settings : Settings) → P (Ok settings) (Ok (found_at settings s sheet place counter)))
+      → ((refusal : Refusal) → P (Err refusal) (Err refusal)) → P (checked_with s dialect joins named sheet) answer
+  unfolding looked_up
+  by_check P accepted refused = rw e (go (checked_with s dialect joins named sheet))
+    where
+      go : (c : Result Settings Refusal) → P c (accepted_or (λ settings. Ok (found_at settings s sheet place counter)) Err c)
+      go (Ok settings) = accepted settings
+      go (Err refusal) = refused refusal
+
+  pub found_told : result_unwrap_or answer (nothing_found counter) ≡ lookup_found s dialect joins named sheet place counter
+  unfolding lookup_found
+  found_told =
+      by_check (λ c r. result_unwrap_or r (nothing_found counter) ≡ accepted_or (λ settings. found_at settings s sheet place counter) (λ refusal. nothing_found counter) c)
+      (λ settings. refl) (λ refusal. refl)
+
+  module _ (told : Result ℕ Refusal) (h : told ≡ length_of answer) where
+    pub number_told : (n : ℕ) → n ≡ text_number told → n ≡ lookup_number s dialect joins named sheet
     unfolding lookup_number
-    accepted_number = rw (← e, k)
+    number_told n f = f ∙ ap text_number h ∙ by_check (λ c r. text_number (length_of r) ≡ told_number c) (λ settings. refl) (λ refusal. refl)
 
-    module _ (place counter : ℕ) (found : Found) (f : found ≡ found_at settings s sheet place counter) where
-      found_is : found ≡ lookup_found s dialect joins named sheet place counter
-      unfolding lookup_found
-      found_is = f ∙ rw (← e, k)
+    pub detail_told : (n : ℕ) → n ≡ text_detail told → n ≡ lookup_detail s dialect joins named sheet place counter
+    unfolding lookup_detail lookup_found
+    detail_told n f =
+        f
+        ∙ ap text_detail h
+        ∙ by_check
+        (λ c r. text_detail (length_of r) ≡ told_detail (part_length (accepted_or (λ settings. found_at settings s sheet place counter) (λ refusal. nothing_found counter) c).part) c)
+        (λ settings. refl) (λ refusal. refl)
 
-      pub accepted_part : found.part ≡ lookup_part s dialect joins named sheet place counter
-      accepted_part = ap (λ (q : Found). q.part) found_is
-
-      pub accepted_counter : found.counter ≡ lookup_counter s dialect joins named sheet place counter
-      accepted_counter = ap (λ (q : Found). q.counter) found_is
-
-      pub accepted_detail : (n : ℕ) → n ≡ part_length found.part → n ≡ lookup_detail s dialect joins named sheet place counter
-      unfolding lookup_detail
-      accepted_detail n g =
-          g
-          ∙ ap part_length accepted_part
-          ∙ (let z : part_length (lookup_part s dialect joins named sheet place counter) ≡ lookup_detail s dialect joins named sheet place counter = rw (← e, k) in z)
-
-  module _ (refusal : Refusal) (k : r ≡ Err refusal) where
-    pub refused_number : (n : ℕ) → n ≡ refusal_number refusal → n ≡ lookup_number s dialect joins named sheet
-    unfolding lookup_number
-    refused_number n f = f ∙ rw (← e, k)
-
-    module _ (place counter : ℕ) where
-      nothing_is : nothing_found counter ≡ lookup_found s dialect joins named sheet place counter
-      unfolding lookup_found
-      nothing_is = rw (← e, k)
-
-      pub refused_part : P.Statement 0 0 ≡ lookup_part s dialect joins named sheet place counter
-      unfolding nothing_found
-      refused_part = ap (λ (q : Found). q.part) nothing_is
-
-      pub refused_counter : counter ≡ lookup_counter s dialect joins named sheet place counter
-      unfolding nothing_found
-      refused_counter = ap (λ (q : Found). q.counter) nothing_is
-
-      pub refused_detail : (n : ℕ) → n ≡ refusal_detail refusal → n ≡ lookup_detail s dialect joins named sheet place counter
-      unfolding lookup_detail
-      refused_detail n f = f ∙ rw (← e, k)
+  module _ (h : IfOk answer (λ found. PartInside s sheet found.part)) where
+    pub told_inside : PartInside s sheet (result_unwrap_or answer (nothing_found counter)).part
+    unfolding nothing_found
+    told_inside = go answer h
+      where
+        go : (r : Result Found Refusal) → IfOk r (λ found. PartInside s sheet found.part) → PartInside s sheet (result_unwrap_or r (nothing_found counter)).part
+        go (Ok found) g = g
+        go (Err refusal) g = zero-le

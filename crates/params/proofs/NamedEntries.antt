@@ -3,14 +3,15 @@
 use Prim.Native.Nat.{ℕ, zero, suc, ◌+◌, ◌<◌, zero-le}
 use native.Mathlib.Omega.{arith}
 use mathlib.Core.Path.{◌≡◌, refl, ap, ◌∙◌}
-use mathlib.Core.Bool.{Bool, true, false, cond}
+use mathlib.Core.Bool.{Bool, true, false, cond, not}
 use mathlib.Core.List.{List, [], ◌∷◌}
 use borrow.Author.Tests.{lt-ltb, le-ltb}
 use lib.Dec.{ltb}
 use lib.ListN.{length}
-use Rattle.std.specs.Prelude.{Option, Some, None, MatchOption}
+use Rattle.std.specs.Prelude.{Option, Some, None, MatchOption, is_some}
 use Rattle.std.specs.List.{AllWithin, HoldsAt}
 use Rattle.recognisers.specs.declared.Key.{Key}
+use Rattle.recognisers.specs.declared.Key.TheVariants.{Named, Escaped, ZeroIndexed, OneIndexed}
 use Rattle.recognisers.specs.Same.{same}
 use Rattle.tokenizer.specs.KeyText.{key_text}
 use Rattle.params.specs.declared.Part.{Part}
@@ -66,18 +67,25 @@ module _ (text : List ℕ) where
         MatchOption r (AllWithin IsNot (entries sheet) 0 (length (entries sheet)))
         (λ x. Is (seen x) × (i : ℕ) × (i < length (entries sheet)) × HoldsAt (λ y. y ≡ seen x) (entries sheet) i × AllWithin IsNot (entries sheet) 0 i)
 
-module _ (s sheet : List ℕ) (key : Option Key) (b : Bool) (e : b ≡ has_key key) where
-  pub keyless : b ≡ false → None ≡ numbered sheet (by_name s sheet key)
+has_key_is : (key : Option Key) → has_key key ≡ is_some key
+has_key_is None = refl
+has_key_is (Some (Named start len)) = refl
+has_key_is (Some (Escaped start len)) = refl
+has_key_is (Some (ZeroIndexed n)) = refl
+has_key_is (Some (OneIndexed n)) = refl
+
+module _ (s sheet : List ℕ) (key : Option Key) (b : Bool) (e : is_some key ≡ not b) where
+  pub keyless : b ≡ true → None ≡ numbered sheet (by_name s sheet key)
   unfolding by_name numbered
-  keyless f = let k : ltb (count_of sheet) (count_of sheet) ≡ false = le-ltb (count_of sheet) (count_of sheet) (omega arith) in rw (← e, f, k)
+  keyless f = let k : ltb (count_of sheet) (count_of sheet) ≡ false = le-ltb (count_of sheet) (count_of sheet) (omega arith) in rw (has_key_is key, e, f, k)
 
-  keyed : b ≡ true → with_name sheet (key_text s key) ≡ by_name s sheet key
+  keyed : b ≡ false → with_name sheet (key_text s key) ≡ by_name s sheet key
   unfolding by_name
-  keyed f = rw (← e, f)
+  keyed f = rw (has_key_is key, e, f)
 
-  pub found_nowhere : b ≡ true → (r : Option Part) → r ≡ None → Finds (key_text s key) sheet None → r ≡ numbered sheet (by_name s sheet key)
+  pub found_nowhere : b ≡ false → (r : Option Part) → r ≡ None → Finds (key_text s key) sheet None → r ≡ numbered sheet (by_name s sheet key)
   found_nowhere f r e' h = e' ∙ named_nowhere (key_text s key) (entries sheet) h ∙ named_in (key_text s key) sheet ∙ ap (numbered sheet) (keyed f)
 
-  pub found_there : b ≡ true → (x : Entry) → Finds (key_text s key) sheet (Some x) → Some x.value ≡ numbered sheet (by_name s sheet key)
+  pub found_there : b ≡ false → (x : Entry) → Finds (key_text s key) sheet (Some x) → Some x.value ≡ numbered sheet (by_name s sheet key)
   found_there f x (p, i, h, at, before) =
       named_there (key_text s key) (entries sheet) i (seen x) h at p before ∙ named_in (key_text s key) sheet ∙ ap (numbered sheet) (keyed f)

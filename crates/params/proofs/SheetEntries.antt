@@ -5,18 +5,26 @@ use native.Mathlib.Nat.{le_refl, le_trans}
 use native.Mathlib.Numerals.{add-one}
 use native.Mathlib.Omega.{arith}
 use mathlib.Core.Path.{◌≡◌, refl, sym, ap, ◌∙◌}
-use mathlib.Core.Bool.{Bool, true, false, ◌&&◌, false≢true}
+use mathlib.Core.Bool.{Bool, true, false, cond, ◌&&◌, false≢true}
 use mathlib.Core.List.{List}
-use borrow.Author.Tests.{le-leb, lt-leb, ne_eqb, leb-true, leb-false}
+use borrow.Author.Tests.{ne_eqb, leb-true, leb-false}
 use lib.Dec.{leb, eqb}
-use lib.ListN.{length, take, drop}
+use lib.ListN.{length}
 use Rattle.characters.specs.Utf8.{well_formed}
 use Rattle.params.specs.declared.Lengths.{Lengths}
 use Rattle.params.specs.declared.Place.{Place}
-use Rattle.params.specs.Sheet.{count_of, width, lengths_at, past, place_of, name_at, value_at, name_of, value_of, bodies_are_utf8, fills_exactly, is_sheet_length, is_kind_and_count, is_sheet}
-use Rattle.params.proofs.SheetContents.{either_width}
+use Rattle.params.specs.Inner.Bodies.{are_bodies}
+use Rattle.params.specs.Sheet.{count_of, is_named, width, lengths_at, past, place_of, name_at, value_at, name_of, value_of, bodies_are_utf8, fills_exactly}
 
 module _ (sheet : List ℕ) where
+  pub either_width : (P : ℕ → Type 0) → P 4 → P 2 → P (width sheet)
+  unfolding width
+  either_width P p q = go (is_named sheet)
+    where
+      go : (b : Bool) → P (cond b 4 2)
+      go true = p
+      go false = q
+
   pub place_entry : (n : ℕ) → (place_of sheet n).entry ≡ n
   unfolding place_of past
   place_entry zero = refl
@@ -25,7 +33,7 @@ module _ (sheet : List ℕ) where
   pub place_lengths : (n : ℕ) → (place_of sheet n).lengths ≡ 3 + n * width sheet
   unfolding place_of past
   place_lengths zero = omega arith
-  place_lengths (suc n) = rw (place_lengths n) (either_width sheet (λ w. 3 + n * w + w ≡ 3 + suc n * w) (omega arith) (omega arith))
+  place_lengths (suc n) = rw (place_lengths n) (either_width (λ w. 3 + n * w + w ≡ 3 + suc n * w) (omega arith) (omega arith))
 
   -- the bodies go on
   pub body_next : (n : ℕ) → (place_of sheet n).body ≤ (place_of sheet (suc n)).body
@@ -45,7 +53,7 @@ module _ (sheet : List ℕ) where
 
   -- an entry's lengths stand before the first body
   pub lengths_before : (n : ℕ) → n < count_of sheet → (place_of sheet n).lengths + width sheet ≤ (place_of sheet 0).body
-  lengths_before n h = rw (place_lengths n, bodies_start) (either_width sheet (λ w. 3 + n * w + w ≤ 3 + count_of sheet * w) (omega arith) (omega arith))
+  lengths_before n h = rw (place_lengths n, bodies_start) (either_width (λ w. 3 + n * w + w ≤ 3 + count_of sheet * w) (omega arith) (omega arith))
 
   -- ---- UTF-8 of the first entries
 
@@ -65,30 +73,6 @@ module _ (sheet : List ℕ) where
 
   utf8_up_to : (n m : ℕ) → n ≤ m → bodies_are_utf8 sheet n ≡ false → bodies_are_utf8 sheet m ≡ false
   utf8_up_to n m h e = let f : m ≡ n + (m - n) = omega arith in rw f (utf8_stays n (m - n) e)
-
-  -- ---- the bodies at a place, as they are looked at
-
-  module _ (p : Place) (l : Lengths) (e : l ≡ lengths_at sheet p) where
-    pub bodies_long : length sheet < p.body + l.name + l.value → false ≡ (leb (past sheet p).body (length sheet) && (well_formed (name_at sheet p) && well_formed (value_at sheet p)))
-    unfolding past
-    bodies_long h = rw (← e, lt-leb _ _ h)
-
-    back : (start len : ℕ) → start + len - start ≡ len
-    back start len = omega arith
-
-    module _ (h : p.body + l.name + l.value ≤ length sheet) (b : Bool)
-        (f : b ≡ well_formed (take (p.body + l.name - p.body) (drop p.body sheet))) where
-      pub name_bad : b ≡ false → b ≡ (leb (past sheet p).body (length sheet) && (well_formed (name_at sheet p) && well_formed (value_at sheet p)))
-      unfolding past name_at
-      name_bad g = let k : well_formed (take l.name (drop p.body sheet)) ≡ false = rw (← back p.body l.name) (sym f ∙ g) in g ∙ rw (← e, le-leb _ _ h, k)
-
-      pub value_told : (d : Bool) → b ≡ true → d ≡ well_formed (take (p.body + l.name + l.value - (p.body + l.name)) (drop (p.body + l.name) sheet))
-          → d ≡ (leb (past sheet p).body (length sheet) && (well_formed (name_at sheet p) && well_formed (value_at sheet p)))
-      unfolding past name_at value_at
-      value_told d g k =
-          let m : well_formed (take l.name (drop p.body sheet)) ≡ true = rw (← back p.body l.name) (sym f ∙ g) in
-          let q : d ≡ well_formed (take l.value (drop (p.body + l.name) sheet)) = rw (back (p.body + l.name) l.value) at k in
-          q ∙ rw (← e, le-leb _ _ h, m)
 
   -- ---- the sheet is looked through: p is the place of entry number i, and the entries before it are good
 
@@ -145,7 +129,11 @@ module _ (sheet : List ℕ) where
         unfolding name_of value_of
         next_good = rw (utf8_next i, at.good, ← at.stands)
 
-        module _ (b : Bool) (e : b ≡ good_here) where
+        module _ (b : Bool) (l : Lengths) (lengths : l ≡ lengths_at sheet p) (told : b ≡ are_bodies sheet p.body l) where
+          e : b ≡ good_here
+          unfolding past name_at value_at
+          e = rw lengths at told
+
           pub check_more : b ≡ true → (q : Place) → q ≡ past sheet p → Checking (i + 1) q
           check_more f q g = rw (g, add-one i) (go (leb (past sheet p).body (length sheet)) refl)
             where
@@ -175,23 +163,3 @@ module _ (sheet : List ℕ) where
         and_true : (b : Bool) → (b && true) ≡ b
         and_true true = refl
         and_true false = refl
-
-  -- ---- a sheet that is not malformed
-
-  pub too_short : length sheet < 3 → false ≡ is_sheet sheet
-  unfolding is_sheet is_sheet_length
-  too_short h = rw (lt-leb _ _ h)
-
-  module _ (h : 3 ≤ length sheet) where
-    pub overlong : 65536 < length sheet → false ≡ is_sheet sheet
-    unfolding is_sheet is_sheet_length
-    overlong k = rw (le-leb _ _ h, lt-leb _ _ k)
-
-    module _ (k : length sheet ≤ 65536) (b : Bool) (e : b ≡ is_kind_and_count sheet) where
-      pub wrong_kind : b ≡ false → b ≡ is_sheet sheet
-      unfolding is_sheet is_sheet_length
-      wrong_kind f = f ∙ rw (le-leb _ _ h, le-leb _ _ k, ← e, f)
-
-      pub sheet_told : (d : Bool) → b ≡ true → d ≡ whole → d ≡ is_sheet sheet
-      unfolding is_sheet is_sheet_length
-      sheet_told d f g = g ∙ rw (le-leb _ _ h, le-leb _ _ k, ← e, f)

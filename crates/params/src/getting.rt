@@ -3,9 +3,10 @@ ghost use Rattle.std.specs.Prelude.{◌≡◌, drop};
 ghost use Rattle.params.specs.Inner.Entries.{entries, entries_left};
 
 use crate::entries::Entries;
-use crate::keys::{PlacedToken, index_told};
+use crate::keys::{has_name, index_told, is_placeholder, own_text};
 use crate::sheet::Sheet;
 use crate::{Part, QueryParams};
+use tokenizer::PlacedToken;
 
 // The counter, and the entries from the one that is next in turn on.
 #[derive(Clone, Copy)]
@@ -13,7 +14,7 @@ pub struct Params<'a> {
     pub sheet: Sheet<'a>,
     pub index: u64,
     pub ahead: Entries<'a>,
-    pub ghost turn: { entries_left ahead ≡ drop index (entries sheet.bytes.now) },
+    pub ghost turn: { entries_left ahead ≡ drop index (entries sheet.headed.bytes.now) },
 }
 
 // The counter at a number.
@@ -37,8 +38,9 @@ impl<'a> Params<'a> {
     ghost use Rattle.params.specs.Inner.Placed.{value_for, part_for};
 
     // The value that is next in turn.
+    #[tactic(auto, using(crate::proofs::EntryLists::none_ahead, crate::proofs::EntryLists::first_ahead))]
     fn in_turn(&self) -> Option<Part>
-        ensures { result ≡ numbered self.now.sheet.bytes.now self.now.index }
+        ensures { result ≡ numbered self.now.sheet.headed.bytes.now self.now.index }
     {
         let mut ahead = self.ahead;
         let entry = ahead.next()?;
@@ -46,6 +48,7 @@ impl<'a> Params<'a> {
     }
 
     // One value further: one look at one entry.
+    #[tactic(auto, unfolding(crate::specs::Get::counted_on))]
     fn count_on(&mut self)
         ensures sheet_same { self.new.sheet ≡ self.old.sheet }
         ensures index_after { self.new.index ≡ counted_on self.old.index }
@@ -54,10 +57,11 @@ impl<'a> Params<'a> {
         self.index = self.index.saturating_add(1);
     }
 
+    #[tactic(auto, unfolding(crate::specs::Inner::Entries::numbered), using(crate::proofs::GetByCases::index_kept))]
     fn indexed(&self, token: PlacedToken<'_>) -> Option<Part>
-        ensures { result ≡ numbered self.now.sheet.bytes.now (taken_from Indexed token.entry.statement.now self.now.sheet.bytes.now self.now.index token.entry.token.key) }
+        ensures { result ≡ numbered self.now.sheet.headed.bytes.now (taken_from Indexed token.entry.statement.now self.now.sheet.headed.bytes.now self.now.index token.entry.token.key) }
     {
-        if token.has_name() {
+        if has_name(token) {
             return None;
         }
         match index_told(token.token.key) {
@@ -67,6 +71,7 @@ impl<'a> Params<'a> {
     }
 
     // The value that a placeholder takes.
+    #[tactic(auto, unfolding(crate::specs::Get::taken, crate::specs::Inner::Entries::numbered))]
     fn value(&self, token: PlacedToken<'_>) -> Option<Part>
         ensures { result ≡ value_for self.now token.entry }
     {
@@ -77,35 +82,32 @@ impl<'a> Params<'a> {
         }
     }
 
+    #[tactic(auto, unfolding(crate::specs::Filled::stands_for, crate::specs::Get::get, crate::specs::Get::value_or, crate::specs::Inner::Entries::numbered))]
     pub fn stands_for(&self, token: PlacedToken<'_>) -> Part
         ensures { result ≡ part_for self.now token.entry }
     {
-        if token.is_placeholder() {
-            return self.value(token).unwrap_or(token.own_text());
+        if is_placeholder(token) {
+            return self.value(token).unwrap_or(own_text(token));
         }
-        token.own_text()
+        own_text(token)
     }
 
     // The key takes the value that is next in turn, or would: with an indexed sheet, where it has neither a name nor an index.
     fn takes_turn(&self, token: PlacedToken<'_>) -> bool
-        ensures { result ≡ turn_from (params_of self.now.sheet.bytes.now) token.entry.statement.now token.entry.token.key }
+        ensures { result ≡ turn_from (params_of self.now.sheet.headed.bytes.now) token.entry.statement.now token.entry.token.key }
     {
-        match self.sheet.params() {
-            QueryParams::None => false,
-            QueryParams::Named => false,
-            QueryParams::Indexed => !token.has_name() && index_told(token.token.key).is_none(),
-        }
+        matches!(self.sheet.params(), QueryParams::Indexed)
+            && !has_name(token)
+            && index_told(token.token.key).is_none()
     }
 
     #[inline(always)]
+    #[tactic(auto, unfolding(crate::specs::Filled::index_after, crate::specs::Get::index_past))]
     pub fn params_past(&mut self, token: PlacedToken<'_>)
         ensures sheet_same { self.new.sheet ≡ self.old.sheet }
-        ensures index_after { self.new.index ≡ index_after token.entry.statement.now self.old.sheet.bytes.now self.old.index token.entry.token }
+        ensures index_after { self.new.index ≡ index_after token.entry.statement.now self.old.sheet.headed.bytes.now self.old.index token.entry.token }
     {
-        if !token.is_placeholder() {
-            return;
-        }
-        if self.takes_turn(token) {
+        if is_placeholder(token) && self.takes_turn(token) {
             self.count_on();
         }
     }

@@ -1,9 +1,11 @@
 // src/params.rs: the value sheet, `Params::get` over it, `fill` and `lookup`.
 #![tactic(auto)]
 
+mod accepting;
 mod entries;
 mod filling;
 mod getting;
+mod headed;
 mod keys;
 mod longest;
 mod looking;
@@ -23,7 +25,8 @@ pub enum QueryParams {
     Indexed,
 }
 
-// An entry's place in a sheet: its number, where its lengths start and where its bodies start.
+// An entry's place in a sheet: its number, where its lengths start and where its bodies start. By numbers, as the definition of a sheet
+// has them.
 #[derive(Clone, Copy)]
 pub struct Place {
     pub entry: usize,

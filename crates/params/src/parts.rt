@@ -5,14 +5,13 @@ ghost use Rattle.params.specs.Filled.{part_bytes, part_length, part_start};
 ghost use Rattle.params.specs.Inner.Inside.{PartInside};
 
 use crate::Part;
-use calls::put_from;
+use calls::put_bytes;
 
 pub fn part_length(part: Part) -> usize
     ensures { result ≡ part_length part }
 {
     match part {
-        Part::Statement { start: _, len } => len,
-        Part::Sheet { start: _, len } => len,
+        Part::Statement { len, .. } | Part::Sheet { len, .. } => len,
     }
 }
 
@@ -21,14 +20,7 @@ pub fn put_part(statement: &[u8], sheet: &[u8], part: Part, output: &mut [u8], a
     requires part_in_bounds { at + part_length part ≤ length output.old }
     ensures { output.new ≡ sets output.old at (part_bytes statement.now sheet.now part) }
 {
-    match part {
-        Part::Statement { start, len } => {
-            put_from(statement, start, len, output, at);
-        }
-        Part::Sheet { start, len } => {
-            put_from(sheet, start, len, output, at);
-        }
-    }
+    put_bytes(part_of(statement, sheet, part), output, at);
 }
 
 // The part itself, of one of two sources: which one, and where in it, is told by where the part starts in memory.

@@ -1,8 +1,6 @@
 -- Laws that the proofs cite, and theorems on the definitions.
-pub mod CutTokens
 pub mod Tiles
 pub mod PartWalk
-pub mod CutAnswers
 pub mod PartsEndToEnd
 pub mod PartEnds
 pub mod PartsAccepted

@@ -19,7 +19,8 @@ use Rattle.tokenizer.specs.Tokens.{tokens}
 use Rattle.tokenizer.specs.Values.{value}
 use Rattle.script.specs.Settings.{cutter_settings}
 use Rattle.script.specs.Cuts.{is_cut}
-use Rattle.script.specs.Parts.{Part, between, part_text, parts_from, parts}
+use Rattle.script.specs.declared.Part.{Part}
+use Rattle.script.specs.Parts.{between, part_text, parts_from, parts}
 use Rattle.script.proofs.Tiles.{Tiled, tiled}
 use Rattle.script.proofs.PartsEndToEnd.{EachPart}
 

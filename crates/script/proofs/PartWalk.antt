@@ -1,17 +1,15 @@
 -- The walk over the tokens that counts the parts and writes their places. The state is the start of the present part.
 -- Assumes nothing.
-use Prim.Native.Nat.{ℕ, suc, ◌+◌, ◌-◌, ◌*◌, ◌/◌, ◌≤◌}
+use Prim.Native.Nat.{ℕ, suc, ◌+◌, ◌*◌, ◌/◌, ◌≤◌}
 use native.Mathlib.Nat.{suc-mul, le_trans}
 use native.Mathlib.Omega.{arith}
 use mathlib.Core.Path.{◌≡◌, refl, sym, ap, ◌∙◌, subst}
 use mathlib.Core.Bool.{Bool, true, false, cond}
-use mathlib.Core.List.{List, [], ◌∷◌, ◌++◌, append_assoc, append-nil}
+use mathlib.Core.List.{List, [], ◌∷◌, ◌++◌, append_assoc}
 use borrow.Author.Tests.{eq-eqb, ne_eqb, lt-ltb, le-ltb}
-use lib.Dec.{eqb}
 use lib.ListN.{length, drop, length-append}
 use lib.Seq.{sets}
-use Rattle.calls.proofs.Storing.{both_put}
-use Rattle.calls.specs.LittleEndian.{low_bytes, le32}
+use Rattle.calls.specs.LittleEndian.{low_bytes}
 use Rattle.calls.specs.declared.Settings.{Settings}
 use Rattle.std.specs.Prelude.{Option, Some, None}
 use Rattle.std.specs.Iterator.{YieldsFirst}
@@ -21,11 +19,13 @@ use Rattle.tokenizer.specs.declared.Token.{Token}
 use Rattle.tokenizer.specs.declared.walking.Tokens.{Tokens}
 use Rattle.tokenizer.specs.Left.{tokens_left}
 use Rattle.tokenizer.specs.Tokens.{tokens}
+use Rattle.tokenizer.specs.Inner.Inside.{key_end}
 use Rattle.tokenizer.proofs.EndToEnd.{tokens_short}
-use Rattle.tokenizer.proofs.Walks.{Walk, taken, Wrote, write_start, write_room, write_to, write_count, write_end}
+use Rattle.tokenizer.proofs.Walks.{Walk, taken, Wrote, write_start, write_room, write_to, write_count, write_end, token_key}
 use Rattle.script.specs.Settings.{cutter_settings}
 use Rattle.script.specs.Cuts.{is_cut}
-use Rattle.script.specs.Parts.{Part, between, parts_from, parts}
+use Rattle.script.specs.declared.Part.{Part}
+use Rattle.script.specs.Parts.{between, parts_from, parts}
 use Rattle.script.specs.Places.{place_bytes, place_of, places_of}
 use Rattle.script.specs.Inner.Ended.{ends_part, ended_at, start_past}
 use Rattle.script.proofs.Tiles.{Tiled, tiled}
@@ -93,10 +93,6 @@ place_length : (p : Part) → length (place_of p) ≡ place_bytes
 unfolding place_of low_bytes
 place_length p = refl
 
-pub place_put : (places first second : List ℕ) (at from to : ℕ) → first ≡ sets places at (le32 from) → second ≡ sets first (at + 4) (le32 (to - from)) → second ≡ sets places at (place_of (between from to))
-unfolding place_of low_bytes
-place_put places first second at from to e f = f ∙ rw e (both_put (le32 from) (le32 (to - from)) places at)
-
 pub places_length : (ps : List Part) → length (places_of ps) ≡ length ps * place_bytes
 unfolding places_of
 places_length [] = refl
@@ -106,53 +102,6 @@ places_append : (ps qs : List Part) → places_of (ps ++ qs) ≡ places_of ps ++
 unfolding places_of
 places_append [] qs = refl
 places_append (p ∷ ps) qs = ap (λ (l : List ℕ). place_of p ++ l) (places_append ps qs) ∙ sym (append_assoc (place_of p) (places_of ps) (places_of qs))
-
--- ---- one token, as the code has it
-
-module _ (s : List ℕ) (t : Token) where
-  pub cut_ends : (b : Bool) → b ≡ is_cut s t → b ≡ true → true ≡ ends_part s t
-  unfolding ends_part
-  cut_ends b e f = rw (← e, f)
-
-  pub last_ends : (b c : Bool) → b ≡ is_cut s t → b ≡ false → c ≡ eqb (t.start + t.len) (length s) → c ≡ ends_part s t
-  unfolding ends_part
-  last_ends b c e f g = g ∙ rw (← e, f)
-
-  module _ (b : Bool) (e : b ≡ ends_part s t) where
-    module _ (f : b ≡ true) where
-      pub start_moved : (from : ℕ) → t.start + t.len ≡ start_past s from t
-      unfolding start_past
-      start_moved from = rw (← e, f)
-
-      module _ (from : ℕ) where
-        ended_is : places_of (ended_at s from t) ≡ place_of (between from (t.start + t.len))
-        unfolding ended_at places_of
-        ended_is = rw (← e, f) (append-nil (place_of (between from (t.start + t.len))))
-
-        pub ended_room : (at room : ℕ) → at + length (places_of (ended_at s from t)) ≤ room → at + place_bytes ≤ room
-        ended_room at room h = omega (arith, h, ap length ended_is, place_length (between from (t.start + t.len)))
-
-        pub ended_behind : (at : ℕ) → at + place_bytes ≡ at + length (places_of (ended_at s from t))
-        ended_behind at = omega (arith, ap length ended_is, place_length (between from (t.start + t.len)))
-
-        pub ended_put : (places after : List ℕ) (at : ℕ) → after ≡ sets places at (place_of (between from (t.start + t.len))) → after ≡ sets places at (places_of (ended_at s from t))
-        ended_put places after at g = rw ended_is g
-
-    module _ (f : b ≡ false) where
-      pub start_kept : (from : ℕ) → from ≡ start_past s from t
-      unfolding start_past
-      start_kept from = rw (← e, f)
-
-      module _ (from : ℕ) where
-        unended_is : places_of (ended_at s from t) ≡ []
-        unfolding ended_at places_of
-        unended_is = rw (← e, f)
-
-        pub unended_behind : (at : ℕ) → at ≡ at + length (places_of (ended_at s from t))
-        unended_behind at = omega (arith, ap length unended_is)
-
-        pub unended_put : (places : List ℕ) (at : ℕ) → places ≡ sets places at (places_of (ended_at s from t))
-        unended_put places at = rw unended_is
 
 -- ---- written
 
@@ -197,6 +146,9 @@ module _ (s : List ℕ) where
 
         pub cut_inside : t.start + t.len ≤ length s
         cut_inside = omega (arith, tile.0.from, tile.0.inside)
+
+        pub cut_key : key_end t.key ≤ length s
+        cut_key = token_key cutter_settings s it it' r now.wrote.counted.rest e t f
 
         pub cut_room : at + length (places_of (ended_at s from t)) ≤ length places
         cut_room = write_room place_walk cutter_settings s all before places at from it it' r now.wrote e t f (length (places_of (ended_at s from t))) refl

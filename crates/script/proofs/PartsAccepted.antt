@@ -23,7 +23,8 @@ use Rattle.tokenizer.proofs.EachToken.{Each}
 use Rattle.tokenizer.proofs.TokenBoundaries.{Boundary, token_boundaries}
 use Rattle.script.specs.Settings.{cutter_settings}
 use Rattle.script.specs.Cuts.{is_cut}
-use Rattle.script.specs.Parts.{Part, part_text, parts_from, parts}
+use Rattle.script.specs.declared.Part.{Part}
+use Rattle.script.specs.Parts.{part_text, parts_from, parts}
 use Rattle.script.proofs.Tiles.{Tiled, tiled}
 use Rattle.script.proofs.PartsEndToEnd.{EachPart, Inside, parts_inside}
 

@@ -13,7 +13,8 @@ use Rattle.tokenizer.specs.declared.Token.{Token}
 use Rattle.tokenizer.specs.Tokens.{tokens}
 use Rattle.script.specs.Settings.{cutter_settings}
 use Rattle.script.specs.Cuts.{is_cut}
-use Rattle.script.specs.Parts.{Part, parts_from, parts, laid}
+use Rattle.script.specs.declared.Part.{Part}
+use Rattle.script.specs.Parts.{parts_from, parts, laid}
 use Rattle.script.proofs.Tiles.{Tiled, tiled}
 
 -- what holds of each part

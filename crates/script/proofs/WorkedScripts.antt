@@ -28,7 +28,8 @@ use Rattle.tokenizer.specs.Memory.{takes_type_specifier, after_between, last_top
 use Rattle.tokenizer.specs.NextToken.{from_word, from_placeholder, from_operator, from_reserved, from_number, from_close_paren, from_open_paren, from_string, from_type_specifier, get_next_token, next_piece}
 use Rattle.tokenizer.specs.Tokens.{given_out, tokens_from, tokens}
 use Rattle.script.specs.Cuts.{is_cut}
-use Rattle.script.specs.Parts.{Part, parts_from, parts}
+use Rattle.script.specs.declared.Part.{Part}
+use Rattle.script.specs.Parts.{parts_from, parts}
 
 -- each with start and length of its parts
 pub scripts : List (List ℕ × List (ℕ × ℕ))

@@ -1,13 +1,10 @@
 -- The parts of a script.
 use Rattle.std.specs.Prelude.{ℕ, ◌+◌, ◌-◌, cond, List, [], ◌∷◌, ◌++◌, ltb, length, take, drop}
 use Rattle.tokenizer.specs.declared.Token.{Token}
+use Rattle.script.specs.declared.Part.{Part}
 use Rattle.tokenizer.specs.Tokens.{tokens}
 use Rattle.script.specs.Settings.{cutter_settings}
 use Rattle.script.specs.Cuts.{is_cut}
-
-pub record Part : Type 0 where
-  pub start : ℕ
-  pub len : ℕ
 
 -- from one place up to another
 abbrev pub between : ℕ → ℕ → Part

@@ -1,7 +1,7 @@
 -- A part's place in bytes: start and length, two 32-bit words, the lowest byte first.
 use Rattle.std.specs.Prelude.{ℕ, List, [], ◌∷◌, ◌++◌}
 use Rattle.calls.specs.LittleEndian.{le32}
-use Rattle.script.specs.Parts.{Part}
+use Rattle.script.specs.declared.Part.{Part}
 
 -- the bytes of a place
 abbrev pub place_bytes : ℕ

@@ -8,3 +8,10 @@ mod places;
 
 pub use cutting::cut;
 pub use parts::cutter_settings;
+
+// A part of a script, by its place.
+#[derive(Clone, Copy)]
+pub struct Part {
+    pub start: usize,
+    pub len: usize,
+}

@@ -121,11 +121,12 @@ pub line_quiet : (x : List ℕ) (n : ℕ) → till_line_ending x ≡ Some n → 
 line_quiet x n e = sym (refused_is x) ∙ ap refused e
 
 -- as the code asks it
-pub none_returns : (x : List ℕ) (o : Option ℕ) (r : Bool) → o ≡ till_line_ending x → is_some o ≡ not r → r ≡ returns x
-none_returns x (Some n) false e f = sym (line_quiet x n (sym e))
-none_returns x (Some n) true e f = absurd (false≢true (sym f))
-none_returns x None false e f = absurd (false≢true f)
-none_returns x None true e f = sym (line_return x (sym e))
+pub none_returns : (x : List ℕ) → returns x ≡ not (is_some (till_line_ending x))
+none_returns x = go (till_line_ending x) refl
+  where
+    go : (o : Option ℕ) → till_line_ending x ≡ o → returns x ≡ not (is_some o)
+    go (Some n) e = line_quiet x n e
+    go None e = line_return x e
 
 pub line_end_quiet : (x : List ℕ) (n : ℕ) → till_line_ending x ≡ Some n → returns (drop n x) ≡ false
 unfolding till_line_ending returns

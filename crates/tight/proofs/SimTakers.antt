@@ -4,7 +4,7 @@ use Rattle.std.proofs.Common.{Option, Some, None}
 use Prim.Native.Nat.{ℕ, zero, suc, ◌+◌}
 use native.Mathlib.Numerals.{one-add}
 use native.Mathlib.Omega.{arith}
-use mathlib.Core.Path.{◌≡◌, refl, sym, ap, subst, ◌∙◌}
+use mathlib.Core.Path.{◌≡◌, refl, sym, ap, ◌∙◌}
 use mathlib.Core.List.{List, [], ◌∷◌}
 use mathlib.Core.Bool.{Bool, true, false, cond, not, ◌&&◌, false≢true}
 use lib.ListN.{drop}
@@ -33,9 +33,6 @@ pub same_refl : (n : ℕ) (t : Option ℕ) → Same n t t
 same_refl n (Some m) = equal
 same_refl n None = neither
 
-pub same_eq : (n : ℕ) {t t' : Option ℕ} → t ≡ t' → Same n t t'
-same_eq n {t} e = subst (λ (u : Option ℕ). Same n t u) e (same_refl n t)
-
 -- one byte more on both sides; on both sides, where none is kept; on the left side
 pub both_more : {n : ℕ} {t t' : Option ℕ} → Same n t t' → Same (suc n) (T.more 1 t) (T.more 1 t')
 both_more neither = neither
@@ -60,9 +57,6 @@ pub or_same : {n : ℕ} {o o' p p' : Option ℕ} → Same n o o' → Same n p p'
 or_same neither r = r
 or_same equal r = equal
 or_same (other h) r = other h
-
-pub or_law : (first second : Taker) → Law first → Law second → Law (λ x. or (first x) (second x))
-or_law first second l k n x x' s = or_same (l n x x' s) (k n x x' s)
 
 pub done_law : Law done
 done_law n x x' s = equal

@@ -1,12 +1,12 @@
 // Gaps, and what they become.
-ghost use Rattle.std.specs.Prelude.{◌≡◌, ◌+◌, ◌≤◌, length};
+ghost use Rattle.std.specs.Prelude.{◌≡◌, length};
 ghost use Rattle.tight.specs.TightText.{is_gap, becomes, at_end, gap_bytes};
 ghost use Rattle.tight.specs.Inner.Added.{outside, spacing_past};
 
 use crate::returning::gap_after;
 use crate::{Gap, Spacing};
 use recognisers::TokenKind;
-use tokenizer::Token;
+use tokenizer::{PlacedToken, Token};
 
 #[tactic(auto, unfolding(crate::specs::TightText::is_gap))]
 pub fn is_gap(token: Token) -> bool
@@ -37,28 +37,26 @@ pub fn gap_length(gap: Option<Gap>) -> usize
     usize::from(gap.is_some())
 }
 
+// With a contract of its own, which a derived `default` has not.
 pub fn before_first() -> Spacing
     ensures { result ≡ outside }
 {
     Spacing::default()
 }
 
-pub fn spacing_past(statement: &[u8], spacing: Spacing, token: Token) -> Spacing
-    requires { token.start + token.len ≤ length statement.now }
-    ensures { result ≡ spacing_past statement.now spacing token }
+#[tactic(auto, unfolding(crate::specs::Inner::Added::spacing_past))]
+pub fn spacing_past(spacing: Spacing, token: PlacedToken<'_>) -> Spacing
+    ensures { result ≡ spacing_past token.entry.statement.now spacing token.entry.token }
 {
     let here = spacing.here;
-    let kind = token.kind;
-    if is_gap(token) {
-        let start = token.start;
-        let end = start + token.len;
+    if is_gap(token.token) {
         return Spacing {
-            here: here,
-            lead: gap_becomes(here, &statement[start..end]),
+            here,
+            lead: gap_becomes(here, token.text()),
         };
     }
     Spacing {
-        here: Some(kind),
+        here: Some(token.token.kind),
         lead: None,
     }
 }

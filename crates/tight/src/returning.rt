@@ -7,6 +7,7 @@ use crate::Gap;
 use recognisers::{TokenKind, till_line_ending};
 
 // The first CR or LF is a CR without LF, at which a line comment is refused.
+#[tactic(auto, using(crate::proofs::LineComments::none_returns))]
 fn is_returning(gap: &[u8]) -> bool
     ensures { result ≡ returns gap.now }
 {

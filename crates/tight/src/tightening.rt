@@ -1,39 +1,36 @@
 // `tighten`: the tight text of a statement, into an output that the caller lends.
 ghost use Rattle.std.specs.Prelude.{◌≡◌, length};
-ghost use Rattle.calls.specs.Texts.{text_answer, text_after};
-ghost use Rattle.tight.specs.TightText.{tight};
+ghost use Rattle.tight.specs.Inner.Searches.{text_of};
 ghost use Rattle.tight.specs.Answers.{tighten_answer, tighten_output};
 
 use crate::text::{tight_length, write_tight};
-use calls::{Refusal, Settings, check};
+use calls::{Refusal, Search, Text, check, write_text};
 
-// Measures first: where the output is full, nothing may be written.
-fn measure_then_write(
-    statement: &[u8],
-    settings: Settings,
-    output: &mut [u8],
-) -> Result<u64, Refusal>
-    ensures value { result ≡ text_answer (tight settings statement.now) (length output.old) }
-    ensures output_after { output.new ≡ text_after (tight settings statement.now) output.old }
-{
-    let needed = tight_length(statement, settings);
-    if output.len() < needed {
-        return Err(Refusal::OutputFull(needed as u64));
-    }
-    Ok(write_tight(statement, settings, output) as u64)
+// A search whose tight text is asked for.
+#[derive(Clone, Copy)]
+struct Tightening<'a> {
+    search: Search<'a>,
 }
 
-// A tight text is no longer than its statement: with that much room one pass is enough.
-fn write_output(statement: &[u8], settings: Settings, output: &mut [u8]) -> Result<u64, Refusal>
-    ensures value { result ≡ text_answer (tight settings statement.now) (length output.old) }
-    ensures output_after { output.new ≡ text_after (tight settings statement.now) output.old }
-{
-    if output.len() < statement.len() {
-        return measure_then_write(statement, settings, output);
+// A tight text is no longer than its statement.
+impl<'a> Text for Tightening<'a> {
+    ghost text = { λ tightening. text_of tightening.search };
+
+    #[tactic(auto, using(crate::proofs::TightShort::tight_short))]
+    fn most(self) -> usize {
+        self.search.text.len()
     }
-    Ok(write_tight(statement, settings, output) as u64)
+
+    fn length(self) -> usize {
+        tight_length(self.search)
+    }
+
+    fn write(self, output: &mut [u8]) -> usize {
+        write_tight(self.search, output)
+    }
 }
 
+// The boundary for C has this as it has `tokenize`: an output of bytes, and an answer of one number.
 #[tactic(auto, unfolding(calls::specs::Texts::call_answer, calls::specs::Texts::call_output))]
 pub fn tighten(
     statement: &[u8],
@@ -45,6 +42,6 @@ pub fn tighten(
     ensures value { result ≡ tighten_answer statement.now dialect joins named (length output.old) }
     ensures output_after { output.new ≡ tighten_output statement.now dialect joins named output.old }
 {
-    let settings = check(statement, dialect, joins, named)?;
-    write_output(statement, settings, output)
+    let search = check(statement, dialect, joins, named)?;
+    write_text(Tightening { search }, output)
 }

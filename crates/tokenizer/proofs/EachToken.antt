@@ -1,23 +1,27 @@
 -- What holds of each token, if it holds of each piece at each place.
 -- Assumes nothing.
 use Rattle.std.proofs.Common.{Option, Some, None}
-use Prim.Native.Nat.{ℕ, zero, suc, ◌+◌, ◌-◌, ◌≤◌, ◌<◌}
+use Prim.Native.Nat.{ℕ, zero, suc, ◌+◌, ◌-◌, ◌≤◌, ◌<◌, zero-le}
+use native.Mathlib.Nat.{le_trans}
 use native.Mathlib.Omega.{arith}
 use mathlib.Core.Path.{◌≡◌, refl, ap}
 use mathlib.Core.List.{List, [], ◌∷◌}
 use lib.ListN.{length, get_or, take, drop, length-drop, drop_of_length-le}
 use Rattle.recognisers.specs.declared.Piece.{Piece}
+use Rattle.recognisers.specs.declared.Key.{Key}
+use Rattle.recognisers.specs.declared.Key.TheVariants as K
 use Rattle.tokenizer.specs.declared.Cursor.{Cursor}
 use Rattle.tokenizer.specs.declared.Memory.{Memory}
 use Rattle.calls.specs.declared.Settings.{Settings}
 use Rattle.tokenizer.specs.declared.Token.{Token}
 use Rattle.tokenizer.specs.Memory.{start, remembered}
 use Rattle.tokenizer.specs.NextToken.{next_piece}
-use Rattle.tokenizer.specs.Tokens.{token_at, tokens}
+use Rattle.tokenizer.specs.Tokens.{placed, token_at, tokens}
+use Rattle.tokenizer.specs.Inner.Inside.{key_end}
 use Rattle.tokenizer.proofs.Steps.{left, Moved, moved, past_end}
 use Rattle.tokenizer.proofs.EndToEnd.{Recognises, piece_recognised}
 use Rattle.tokenizer.proofs.NextPieceSizes.{piece_sized}
-use Rattle.recognisers.proofs.PieceSizes.{Sized}
+use Rattle.recognisers.proofs.PieceSizes.{KeyFits, Sized}
 
 abbrev pub Each : (Token → Type 0) → List Token → Type 0
 Each P [] = Unit {0}
@@ -68,3 +72,22 @@ each_inside settings s = each_token settings s (λ t. t.start + t.len ≤ length
 
 pub inside_at : (settings : Settings) (s : List ℕ) (k : ℕ) (t : Token) → k < length (tokens settings s) → t ≡ get_or (tokens settings s) k t → t.start + t.len ≤ length s
 inside_at settings s k t l e = each_at (λ u. u.start + u.len ≤ length s) (tokens settings s) (each_inside settings s) k t l e
+
+key_ends : (at n : ℕ) (key : Option Key) → KeyFits n key → key_end (placed at key) ≤ at + n
+key_ends at n None h = zero-le
+key_ends at n (Some (K.Named start len)) h = omega arith
+key_ends at n (Some (K.Escaped start len)) h = omega arith
+key_ends at n (Some (K.ZeroIndexed i)) h = zero-le
+key_ends at n (Some (K.OneIndexed i)) h = zero-le
+
+pub each_key : (settings : Settings) (s : List ℕ) → Each (λ t. key_end t.key ≤ length s) (tokens settings s)
+each_key settings s = each_token settings s (λ t. key_end t.key ≤ length s) (λ at. Unit {0}) one tt
+  where
+    one : (memory : Memory) (at : ℕ) (p : Piece) → at < length s → Unit {0} → next_piece settings memory (drop at s) ≡ Some p → (key_end (placed at p.key) ≤ length s) × Unit {0}
+    one memory at p h u e =
+        let f : Sized (drop at s) (Some p) = rw e at (piece_sized settings memory (drop at s)) in
+        let i = f.inside in
+        (le_trans (key_ends at p.len p.key f.key_inside) (omega (arith, h, length-drop at s)), tt)
+
+pub key_at : (settings : Settings) (s : List ℕ) (k : ℕ) (t : Token) → k < length (tokens settings s) → t ≡ get_or (tokens settings s) k t → key_end t.key ≤ length s
+key_at settings s k t l e = each_at (λ u. key_end u.key ≤ length s) (tokens settings s) (each_key settings s) k t l e

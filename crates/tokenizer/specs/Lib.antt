@@ -9,3 +9,4 @@ pub mod Records
 pub mod Answers
 pub mod Values
 pub mod KeyText
+pub mod Inner

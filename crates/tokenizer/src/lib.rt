@@ -6,6 +6,7 @@ use reserved::TopLevel;
 
 mod choice;
 mod levels;
+mod placed;
 mod records;
 mod remembering;
 mod stepping;
@@ -14,6 +15,7 @@ mod tokenizing;
 mod walking;
 
 pub use levels::level_past;
+pub use placed::PlacedToken;
 pub use records::key_words;
 pub use table::count_tokens;
 pub use tokenizing::tokenize;

@@ -1,9 +1,9 @@
 // What is remembered of a token.
-ghost use Rattle.std.specs.Prelude.{◌≡◌, ◌≤◌, length};
+ghost use Rattle.std.specs.Prelude.{◌≡◌, ◌≤◌, length, take};
 ghost use Rattle.tokenizer.specs.Memory.{takes_type_specifier, top_level_of, after_between, last_top_level, remember, remembered};
 
 use crate::Memory;
-use recognisers::{TokenKind, is_exactly};
+use recognisers::TokenKind;
 use reserved::TopLevel;
 
 #[inline(always)]
@@ -23,65 +23,80 @@ fn takes_type_specifier(kind: TokenKind) -> bool
     )
 }
 
-#[tactic(auto, unfolding(crate::specs::Memory::top_level_of))]
+#[tactic(auto, unfolding(crate::specs::Memory::top_level_of), using(recognisers::proofs::LibraryWords::equal))]
 fn top_level_of(alias: &[u8]) -> TopLevel
     ensures { result ≡ top_level_of alias.now }
 {
     match alias {
-        _ if is_exactly(alias, b"SELECT") => TopLevel::Select,
-        _ if is_exactly(alias, b"UPDATE") => TopLevel::Update,
-        _ if is_exactly(alias, b"MERGE INTO") => TopLevel::MergeInto,
-        _ if is_exactly(alias, b"DELETE FROM") => TopLevel::DeleteFrom,
+        _ if alias == b"SELECT".as_slice() => TopLevel::Select,
+        _ if alias == b"UPDATE".as_slice() => TopLevel::Update,
+        _ if alias == b"MERGE INTO".as_slice() => TopLevel::MergeInto,
+        _ if alias == b"DELETE FROM".as_slice() => TopLevel::DeleteFrom,
         _ => TopLevel::Other,
     }
 }
 
-#[inline(always)]
-#[tactic(auto, unfolding(crate::specs::Memory::after_between))]
-fn after_between(before: bool, kind: TokenKind, value: &[u8]) -> bool
-    ensures { result ≡ after_between before kind value.now }
-{
-    if kind == TokenKind::Reserved {
-        return is_exactly(value, b"BETWEEN");
+// What is asked of a token that was read: the alias is the value's first part.
+#[derive(Clone, Copy)]
+pub struct ReadToken<'a> {
+    pub kind: TokenKind,
+    pub value: &'a [u8],
+    pub alias: usize,
+    ghost alias_inside: { alias ≤ length value.now },
+}
+
+impl<'a> ReadToken<'a> {
+    #[inline(always)]
+    fn alias_text(self) -> &'a [u8]
+        ensures { result.now ≡ take self.entry.alias self.entry.value.now }
+    {
+        &self.value[..self.alias]
     }
-    before
+
+    #[inline(always)]
+    #[tactic(auto, unfolding(crate::specs::Memory::after_between), using(recognisers::proofs::LibraryWords::equal))]
+    fn after_between(self, before: bool) -> bool
+        ensures { result ≡ after_between before self.entry.kind self.entry.value.now }
+    {
+        if self.kind == TokenKind::Reserved {
+            return self.value == b"BETWEEN".as_slice();
+        }
+        before
+    }
+
+    #[inline(always)]
+    #[tactic(auto, unfolding(crate::specs::Memory::last_top_level))]
+    fn last_top_level(self, before: TopLevel) -> TopLevel
+        ensures { result ≡ last_top_level before self.entry.kind self.entry.value.now self.entry.alias }
+    {
+        if self.kind == TokenKind::ReservedTopLevel {
+            return top_level_of(self.alias_text());
+        }
+        before
+    }
 }
 
 #[inline(always)]
-#[tactic(auto, unfolding(crate::specs::Memory::last_top_level))]
-fn last_top_level(before: TopLevel, kind: TokenKind, value: &[u8], alias: usize) -> TopLevel
-    requires { alias ≤ length value.now }
-    ensures { result ≡ last_top_level before kind value.now alias }
-{
-    if kind == TokenKind::ReservedTopLevel {
-        return top_level_of(&value[..alias]);
-    }
-    before
-}
-
-#[inline(always)]
-#[tactic(auto, unfolding(crate::specs::Memory::remember))]
-fn remember_token(memory: Memory, kind: TokenKind, value: &[u8], alias: usize) -> Memory
-    requires { alias ≤ length value.now }
-    ensures { result ≡ remember memory kind value.now alias }
+#[tactic(auto, unfolding(crate::specs::Memory::remember), using(recognisers::proofs::LibraryWords::equal))]
+fn remember_token(memory: Memory, token: ReadToken<'_>) -> Memory
+    ensures { result ≡ remember memory token.entry.kind token.entry.value.now token.entry.alias }
 {
     Memory {
-        type_specifier: takes_type_specifier(kind),
-        after_dot: is_exactly(value, b"."),
-        after_between: after_between(memory.after_between, kind, value),
-        top_level: last_top_level(memory.top_level, kind, value, alias),
+        type_specifier: takes_type_specifier(token.kind),
+        after_dot: token.value == b".".as_slice(),
+        after_between: token.after_between(memory.after_between),
+        top_level: token.last_top_level(memory.top_level),
     }
 }
 
 // Whitespace is passed over.
 #[inline(always)]
 #[tactic(auto, unfolding(crate::specs::Memory::remembered))]
-pub fn remember_piece(memory: Memory, kind: TokenKind, value: &[u8], alias: usize) -> Memory
-    requires { alias ≤ length value.now }
-    ensures { result ≡ remembered memory kind value.now alias }
+pub fn remember_piece(memory: Memory, token: ReadToken<'_>) -> Memory
+    ensures { result ≡ remembered memory token.entry.kind token.entry.value.now token.entry.alias }
 {
-    if kind == TokenKind::Whitespace {
+    if token.kind == TokenKind::Whitespace {
         return memory;
     }
-    remember_token(memory, kind, value, alias)
+    remember_token(memory, token)
 }

@@ -1,18 +1,19 @@
 // One step of reading.
-ghost use Rattle.std.specs.Prelude.{◌≡◌, ◌+◌, ◌^◌, ◌<◌, length};
+ghost use Rattle.std.specs.Prelude.{◌≡◌, ◌+◌, ◌^◌, ◌≤◌, ◌<◌, length, drop};
 ghost use Rattle.recognisers.specs.Inner.KeyStart.{key_start};
 ghost use Rattle.recognisers.specs.Inner.Known.{Truthful};
 ghost use Rattle.tokenizer.specs.Memory.{start};
+ghost use Rattle.tokenizer.specs.NextToken.{next_piece};
 ghost use Rattle.tokenizer.specs.Tokens.{given_out, placed, step_at};
 
 use crate::choice::next_piece;
-use crate::remembering::remember_piece;
+use crate::remembering::{ReadToken, remember_piece};
 use crate::{Cursor, Memory, Token};
 use calls::Settings;
-use recognisers::{Dialect, Hints, Key, TokenKind, learn_opener};
+use recognisers::{Dialect, Hints, Key, Piece, Rest, TokenKind, learn_opener};
 use reserved::TopLevel;
 
-// Before the first token.
+// Before the first token. (With a contract of its own, which a `Default` has not.)
 pub fn at_start() -> Cursor
     ensures { result ≡ record { at = 0; memory = start } }
 {
@@ -61,7 +62,8 @@ fn place_key(at: usize, key: Option<Key>) -> Option<Key>
     })
 }
 
-// An opener that opens nothing is an Operator.
+// An opener that opens nothing is an Operator. (Statement and hints stay two parameters in this file for speed, as
+// at `learn_line`.)
 #[inline(always)]
 fn learn(statement: &[u8], at: usize, kind: TokenKind, dialect: Dialect, hints: &mut Hints)
     requires at_in_bounds { at < length statement.now }
@@ -71,6 +73,26 @@ fn learn(statement: &[u8], at: usize, kind: TokenKind, dialect: Dialect, hints: 
     if kind == TokenKind::Operator {
         learn_opener(statement, at, dialect, hints);
     }
+}
+
+#[inline(always)]
+fn piece_at(
+    statement: &[u8],
+    at: usize,
+    settings: Settings,
+    memory: Memory,
+    hints: &Hints,
+) -> Option<Piece>
+    requires at_in_bounds { at ≤ length statement.now }
+    requires truthful { Truthful hints.now statement.now }
+    ensures { result ≡ next_piece settings memory (drop at statement.now) }
+{
+    let rest = Rest {
+        text: &statement[at..],
+        dialect: settings.dialect,
+        hints,
+    };
+    next_piece(rest, settings.named, memory)
 }
 
 // What is known of the statement's end goes along, and grows where an opener opened nothing.
@@ -89,11 +111,8 @@ pub fn next_step(
     if statement.len() <= at {
         return None;
     }
-    let rest = &statement[at..];
     let memory = cursor.memory;
-    let Some(piece) = next_piece(rest, settings, memory, hints) else {
-        return None;
-    };
+    let piece = piece_at(statement, at, settings, memory, hints)?;
     let kind = piece.kind;
     let len = piece.len;
     let alias = piece.alias;
@@ -106,9 +125,10 @@ pub fn next_step(
         key: place_key(at, key),
         escaped: piece.escaped,
     };
-    let dialect = settings.dialect;
-    learn(statement, at, kind, dialect, hints);
-    let next = remember_piece(memory, kind, &rest[..len], alias);
+    learn(statement, at, kind, settings.dialect, hints);
+    let rest = &statement[at..];
+    let value = &rest[..len];
+    let next = remember_piece(memory, ReadToken { kind, value, alias });
     Some((
         token,
         Cursor {

@@ -6,6 +6,7 @@ use crate::Totals;
 use crate::table::write_table;
 use calls::{Refusal, check};
 
+// The boundary for C has this as it has `tighten`: a table of records, and an answer of two numbers.
 #[tactic(auto, unfolding(crate::specs::Answers::tokenize_answer, crate::specs::Answers::tokenize_records))]
 pub fn tokenize(
     statement: &[u8],
@@ -17,6 +18,6 @@ pub fn tokenize(
     ensures value { result ≡ tokenize_answer statement.now dialect joins named (length records.old) }
     ensures records_after { records.new ≡ tokenize_records statement.now dialect joins named records.old }
 {
-    let settings = check(statement, dialect, joins, named)?;
-    write_table(statement, settings, records)
+    let search = check(statement, dialect, joins, named)?;
+    write_table(search, records)
 }

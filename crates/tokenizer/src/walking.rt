@@ -1,6 +1,6 @@
 // The tokens of a statement, one after the other.
 ghost use Rattle.recognisers.specs.Inner.Known.{Truthful};
-ghost use Rattle.recognisers.proofs.KnownOnce.{truthful_once};
+ghost use Rattle.recognisers.specs.Inner.KnownOnce.{truthful_once};
 
 use crate::stepping::{at_start, next_step};
 use crate::{Cursor, Token};

@@ -28,7 +28,7 @@ abbrev pub seen : Entry → List ℕ × Part
 seen e = (e.name.now, e.value)
 
 unfoldable pub entries_left : Entries → List (List ℕ × Part)
-entries_left es = entries_from es.sheet.bytes.now es.place.entry (count_of es.sheet.bytes.now - es.place.entry)
+entries_left es = entries_from es.sheet.headed.bytes.now es.place.entry (count_of es.sheet.headed.bytes.now - es.place.entry)
 
 -- the value of entry number n
 unfoldable pub numbered : List ℕ → ℕ → Option Part

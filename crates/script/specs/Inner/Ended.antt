@@ -2,7 +2,8 @@
 use Rattle.std.specs.Prelude.{ℕ, Bool, ◌||◌, ◌+◌, cond, List, [], ◌∷◌, eqb, length}
 use Rattle.tokenizer.specs.declared.Token.{Token}
 use Rattle.script.specs.Cuts.{is_cut}
-use Rattle.script.specs.Parts.{Part, between}
+use Rattle.script.specs.declared.Part.{Part}
+use Rattle.script.specs.Parts.{between}
 
 -- with a token that cuts, and with the last one
 unfoldable pub ends_part : List ℕ → Token → Bool

@@ -1,15 +1,12 @@
 use Rattle.std.proofs.Common.{rules}
-use Rattle.params.proofs.KeyTexts.{compare_skip, compare_none, compare_more, compare_fails, compare_end}
+use Rattle.params.proofs.KeyTexts.{compare_skip, compare_more, compare_fails, compare_end}
 use Rattle.params.proofs.keys.is_unescaped.Goals as goal
 
-pub returns-in_default-split_first : goal.returns-in_default-split_first
-returns-in_default-split_first c = compare_none _ _ _ _ c.loop-b.invariant _ _ c.in-Some.ensures.cases.0 _ c.is_escape.ensures (search rules) (search rules)
-
-pub returns-then-first-b : goal.returns-then-first-b
-returns-then-first-b c = compare_fails _ _ _ _ c.loop-b.invariant _ _ c.in-Some.ensures.cases.0 _ c.is_escape.ensures (search rules) _ _ c.in-Some-split_first.ensures.cases.0 c.if-first-b.true
+pub returns-then-not-stands_at : goal.returns-then-not-stands_at
+returns-then-not-stands_at c = compare_fails _ _ _ _ c.loop-b.invariant _ _ c.in-Some.ensures.cases.0 _ c.is_escape.ensures (search rules) _ c.stands_at.ensures (search rules)
 
 pub loop-b-preserved-then-not-is_escape : goal.loop-b-preserved-then-not-is_escape
-loop-b-preserved-then-not-is_escape c = compare_more _ _ _ _ c.loop-b.invariant _ _ c.in-Some.ensures.cases.0 _ c.is_escape.ensures (search rules) _ _ c.in-Some-split_first.ensures.cases.0 c.if-first-b.false
+loop-b-preserved-then-not-is_escape c = compare_more _ _ _ _ c.loop-b.invariant _ _ c.in-Some.ensures.cases.0 _ c.is_escape.ensures (search rules) _ c.stands_at.ensures (search rules)
 
 pub loop-b-preserved : goal.loop-b-preserved
 loop-b-preserved c = compare_skip _ _ _ _ c.loop-b.invariant _ _ c.in-Some.ensures.cases.0 _ c.is_escape.ensures (search rules)

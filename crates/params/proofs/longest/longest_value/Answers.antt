@@ -7,4 +7,4 @@ use Rattle.params.proofs.longest.longest_value.Goals as goal
 pub returns : goal.returns
 returns c =
     fold_from_yields_List _ longer 1 _ c.fold.ensures.ran (YieldsList-from_first seen entries_left _ c.entries.ensures) (λ a x b q k. search rules)
-    ∙ longest_listed c.args.sheet.bytes.now
+    ∙ longest_listed c.args.sheet.headed.bytes.now

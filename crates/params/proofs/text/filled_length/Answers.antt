@@ -1,7 +1,6 @@
 use Rattle.std.proofs.Common.{rules}
-use Rattle.tokenizer.proofs.Walks.{begun, count_start, count_fits, count_more, count_end, token_inside}
+use Rattle.tokenizer.proofs.Walks.{begun, count_start, count_fits, count_more, count_end, token_inside, token_key}
 use Rattle.params.proofs.FillWalk.{long_in, index_in, filled_is, filled_fits}
-use Rattle.params.proofs.TokensInside.{token_key}
 use Rattle.params.proofs.text.filled_length.Goals as goal
 
 pub loop-token-init : goal.loop-token-init
@@ -12,10 +11,10 @@ invariant_of-placed-clause-text_inside c = search token_inside
 
 pub invariant_of-placed-clause-key_inside : goal.invariant_of-placed-clause-key_inside
 invariant_of-placed-clause-key_inside c =
-    token_key c.args.settings c.args.statement.now _ _ _ c.loop-token.invariant.0.rest c.next.ensures.steps c.in-Some.token c.in-Some.is
+    token_key c.args.filling.search.settings c.args.filling.search.text.now _ _ _ c.loop-token.invariant.0.rest c.next.ensures.steps c.in-Some.token c.in-Some.is
 
 pub overflow_add-count : goal.overflow_add-count
-overflow_add-count c = search (count_fits, filled_fits, long_in, c.requires, c.args.sheet.good, c.loop-token.invariant.0, c.loop-token.invariant.1)
+overflow_add-count c = search (count_fits, filled_fits, long_in, c.args.filling.search.short, c.args.filling.sheet.good, c.loop-token.invariant.0, c.loop-token.invariant.1)
 
 pub loop-token-preserved : goal.loop-token-preserved
 loop-token-preserved c = (

@@ -1,7 +1,6 @@
 use Rattle.std.proofs.Common.{rules}
-use Rattle.tokenizer.proofs.Walks.{begun, write_start, write_room, write_to, write_count, write_end, token_inside}
+use Rattle.tokenizer.proofs.Walks.{begun, write_start, write_room, write_to, write_count, write_end, token_inside, token_key}
 use Rattle.params.proofs.FillWalk.{long_in, index_in, put_in, filled_is}
-use Rattle.params.proofs.TokensInside.{token_key}
 use Rattle.params.proofs.text.write_filled.Goals as goal
 
 pub loop-token-init : goal.loop-token-init
@@ -12,7 +11,7 @@ invariant_of-placed-clause-text_inside c = search token_inside
 
 pub invariant_of-placed-clause-key_inside : goal.invariant_of-placed-clause-key_inside
 invariant_of-placed-clause-key_inside c =
-    token_key c.args.settings c.args.statement.now _ _ _ c.loop-token.invariant.0.counted.rest c.next.ensures.steps c.in-Some.token c.in-Some.is
+    token_key c.args.filling.search.settings c.args.filling.search.text.now _ _ _ c.loop-token.invariant.0.counted.rest c.next.ensures.steps c.in-Some.token c.in-Some.is
 
 pub put_for-at-requires : goal.put_for-at-requires
 put_for-at-requires c = search (write_room, long_in, c.loop-token.invariant.0, c.loop-token.invariant.1)

@@ -4,7 +4,7 @@ use Rattle.std.proofs.lemmas.Iterator.Consumers.{YieldsList-at, YieldsList-from_
 use Rattle.script.specs.Inner.Ended.{ends_part}
 use Rattle.script.proofs.PartWalk.{parts_counted}
 use Rattle.tokenizer.specs.Left.{tokens_left}
-use Rattle.tokenizer.proofs.EachToken.{inside_at}
+use Rattle.tokenizer.proofs.EachToken.{inside_at, key_at}
 use Rattle.tokenizer.proofs.OneStep.{left_fits}
 use Rattle.tokenizer.proofs.Walks.{begun}
 use Rattle.script.proofs.parts.count_parts.Goals as goal
@@ -13,7 +13,7 @@ pub count-requires-clause-can : goal.count-requires-clause-can
 count-requires-clause-can c = (
   tt,
   tt,
-  serves_from_places (YieldsList-at c.filter.ensures.source (YieldsList-from_first (λ x. x) tokens_left _ c.new.ensures)) (λ x q k. search rules) (λ x k l e. search (rules, inside_at)),
+  serves_from_places (YieldsList-at c.filter.ensures.source (YieldsList-from_first (λ x. x) tokens_left _ c.new.ensures)) (λ x q k. search rules) (λ x k l e. search (rules, inside_at, key_at)),
 )
 
 pub count-requires-clause-fits : goal.count-requires-clause-fits

@@ -1,30 +1,25 @@
 use Rattle.std.proofs.Common.{rules}
-use mathlib.Core.Path.{sym}
-use lib.Seq.{length-take-le}
-use Rattle.recognisers.proofs.Unclosed.{truthful_part}
-use Rattle.tokenizer.proofs.NextPieceSizes.{len_inside, alias_inside, key_fits, len_fits, step_token, step_past, step_nothing}
+use Rattle.characters.proofs.Rests.{part_end}
+use Rattle.tokenizer.proofs.NextPieceSizes.{cut_length, cut_alias, key_fits, len_fits, step_token, step_past, step_nothing}
 use Rattle.tokenizer.proofs.stepping.next_step.Goals as goal
 
 pub returns-then-statement-at-clause-value : goal.returns-then-statement-at-clause-value
 returns-then-statement-at-clause-value c = search step_past
 
-pub next_piece-requires : goal.next_piece-requires
-next_piece-requires c = search truthful_part
-
-pub returns-in_default-clause-value : goal.returns-in_default-clause-value
-returns-in_default-clause-value c = search step_nothing
+pub returns-in_err-piece-clause-value : goal.returns-in_err-piece-clause-value
+returns-in_err-piece-clause-value c = search (rules, step_nothing)
 
 pub place_key-requires : goal.place_key-requires
-place_key-requires c = search key_fits
+place_key-requires c = key_fits _ _ c.args.cursor _ _ c.piece_at.ensures c.in_ok-piece.was (search rules) (search rules)
 
-pub slice_bounds-remember_piece-end : goal.slice_bounds-remember_piece-end
-slice_bounds-remember_piece-end c = sym (length-take-le _ _ (search len_inside))
+pub slice_bounds-value-end : goal.slice_bounds-value-end
+slice_bounds-value-end c = cut_length _ _ c.args.cursor _ _ c.piece_at.ensures c.in_ok-piece.was _ (part_end c.args.statement.now c.args.cursor.at)
 
-pub remember_piece-next-requires : goal.remember_piece-next-requires
-remember_piece-next-requires c = search (rules, step_past, truthful_part, step_nothing, key_fits, alias_inside, len_fits, step_token)
+pub invariant_of-remember_piece : goal.invariant_of-remember_piece
+invariant_of-remember_piece c = record { alias_inside = cut_alias _ _ c.args.cursor _ _ c.piece_at.ensures c.in_ok-piece.was _ (part_end c.args.statement.now c.args.cursor.at) }
 
 pub overflow_add-result : goal.overflow_add-result
-overflow_add-result c = search len_fits
+overflow_add-result c = len_fits _ _ c.args.cursor _ _ c.piece_at.ensures c.in_ok-piece.was (search rules) (search rules)
 
 pub returns-clause-value : goal.returns-clause-value
-returns-clause-value c = search step_token
+returns-clause-value c = step_token _ _ c.args.cursor _ _ c.piece_at.ensures c.in_ok-piece.was _ _ _ _ (part_end c.args.statement.now c.args.cursor.at) (search rules) c.given_out.ensures c.place_key.ensures c.remember_piece-next.ensures

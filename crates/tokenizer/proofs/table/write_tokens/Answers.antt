@@ -5,7 +5,7 @@ use Rattle.tokenizer.proofs.EscapedTotals.{token_marked, escaped_fit, totals_are
 use Rattle.tokenizer.proofs.table.write_tokens.Goals as goal
 
 pub loop-token-init : goal.loop-token-init
-loop-token-init c = search (begun, write_start, records_are, records_room, count_start, level_low_start c.args.settings)
+loop-token-init c = search (begun, write_start, records_are, records_room, count_start, level_low_start c.args.search.settings)
 
 pub put_record-requires : goal.put_record-requires
 put_record-requires c = search (write_room, record_length)
@@ -14,7 +14,7 @@ pub overflow_add-at : goal.overflow_add-at
 overflow_add-at c = search (count_fits, total_fits, record_length, c.well_formed)
 
 pub overflow_add-escaped : goal.overflow_add-escaped
-overflow_add-escaped c = search (count_fits, escaped_fit, token_marked, c.well_formed)
+overflow_add-escaped c = search (count_fits, escaped_fit, token_marked)
 
 pub level_past-level-requires : goal.level_past-level-requires
 level_past-level-requires c = search level_fits

@@ -1,0 +1,15 @@
+-- For inner contracts alone: what is known of an accepted call, and the text that it gives.
+use Rattle.std.specs.Prelude.{ℕ, List, Result, Ok, Err}
+use Rattle.calls.specs.declared.Refusal.{Refusal}
+use Rattle.calls.specs.declared.Settings.{Settings}
+use Rattle.params.specs.declared.accepting.Filling.{Filling}
+use Rattle.params.specs.Filled.{filled}
+
+-- the settings of an accepted call
+abbrev pub settings_told : Result Filling Refusal → Result Settings Refusal
+settings_told (Ok f) = Ok f.search.settings
+settings_told (Err refusal) = Err refusal
+
+-- its filled text
+abbrev pub text_of : Filling → List ℕ
+text_of f = filled f.search.settings f.search.text.now f.sheet.headed.bytes.now
