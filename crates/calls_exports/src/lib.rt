@@ -1,5 +1,6 @@
 // Twins of the calls that serve Rattle callers alone, for tests that are written in Rust: they link libcalls_exports.a. It is
-// no part of the product's boundary, which has none of these calls.
+// no part of the product's boundary, which has none of these calls. Numbers are lent, since a function for C
+// gives one value back.
 #![tactic(auto)]
 
 ghost use Rattle.std.specs.Prelude.{◌≡◌, length};
@@ -14,6 +15,7 @@ use script::cut;
 
 // The part's bytes are copied to the start of `bytes`, where it has the room.
 #[unsafe(no_mangle)]
+#[tactic(auto, unfolding(calls::specs::Texts::text_after), using(crate::proofs::LookupTwins::copied))]
 pub extern "C" fn calls_lookup<'a>(
     statement: &'a [u8],
     dialect: u64,
@@ -63,16 +65,10 @@ pub extern "C" fn calls_lookup_place(
     let part = lookup_part(
         statement, dialect, joins, named, sheet, place, counter, number, detail,
     );
-    match part {
-        Part::Statement { start: at, len: _ } => {
-            *source = 0;
-            *start = at as u64;
-        }
-        Part::Sheet { start: at, len: _ } => {
-            *source = 1;
-            *start = at as u64;
-        }
-    }
+    (*source, *start) = match part {
+        Part::Statement { start: at, .. } => (0, at as u64),
+        Part::Sheet { start: at, .. } => (1, at as u64),
+    };
 }
 
 #[unsafe(no_mangle)]

@@ -1,6 +1,7 @@
 -- A statement of which one byte more is kept than a call accepts is refused as the whole is.
-use Rattle.std.proofs.Common.{◌≡◌, ℕ, ◌≤◌, ◌<◌, ◌⊎◌, inl, inr, List, Bool, true, false, Option, None, Some, IfSome, Result, Ok, Err, OnOk, refl, ap, subst, arith, length, take, take_all, length-take-le}
+use Rattle.std.proofs.Common.{◌≡◌, ℕ, ◌≤◌, ◌<◌, ◌⊎◌, inl, inr, List, Bool, true, false, Option, None, Some, IfSome, Result, Ok, Err, OnOk, refl, ap, ◌∙◌, subst, arith, length, take, take_all, length-take-le}
 use Rattle.std.proofs.lemmas.Bool.{cases_lt, lt-ltb}
+use Rattle.std.specs.Io.KnownBytes.{Appends}
 use Rattle.calls.specs.Checks.{accepted_or, checked, checked_text}
 use Rattle.calls.specs.Settings.{is_setting}
 use Rattle.calls.specs.declared.Settings.{Settings}
@@ -27,9 +28,12 @@ pub call_whole : (text : List ℕ → Settings → List ℕ) (dialect joins name
 unfolding call_printed
 call_whole text dialect joins named room s = accepted_whole (λ front settings. text_printed (text front settings) room) dialect joins named s
 
--- what holds of the kept front of an input, and so of the whole, holds of the input where its bytes are known
-pub whole_input : {A E : Type 0} (a : Option (List ℕ)) (r : Result A E) (P : List ℕ → Type 0) (kept : List ℕ) (most : ℕ) → IfSome a (λ xs. kept ≡ take most xs)
-    → ((xs : List ℕ) → P (take most xs) → P xs) → OnOk r (P kept) → OnOk r (IfSome a P)
-whole_input a (Err e) P kept most read whole shown = tt
-whole_input None (Ok x) P kept most read whole shown = tt
-whole_input (Some xs) (Ok x) P kept most read whole shown = whole xs (subst P read shown)
+-- what is printed of the kept front of an input, and so of the whole, is printed of the input where its bytes are known
+pub whole_input : {A E : Type 0} (a : Option (List ℕ)) (r : Result A E) (before after : Option (List ℕ)) (printed : List ℕ → List ℕ) (space : List ℕ) (n : ℕ)
+    → 65537 ≡ length space → IfSome a (λ xs. take n space ≡ take (length space) xs) → ((xs : List ℕ) → printed (take 65537 xs) ≡ printed xs)
+    → OnOk r (Appends before after (printed (take n space))) → OnOk r (IfSome a (λ xs. Appends before after (printed xs)))
+whole_input a (Err e) before after printed space n full read whole shown = tt
+whole_input None (Ok x) before after printed space n full read whole shown = tt
+whole_input (Some xs) (Ok x) before after printed space n full read whole shown =
+    let front : take n space ≡ take 65537 xs = rw full read in
+    subst (Appends before after) (ap printed front ∙ whole xs) shown

@@ -1,11 +1,11 @@
-// What the programs share: a statement read from an input; numbers, answers and refusals printed to an output. Where an input or
+// What the programs share: a statement read from an input; an answer printed to an output. Where an input or
 // an output fails, the error is passed on, and a program ends with it.
 #![tactic(auto)]
 
-ghost use Rattle.std.specs.Prelude.{◌≡◌, ◌<◌, ◌++◌, IfSome, IfOk, OnOk, length, take, codes, decimal};
+ghost use Rattle.std.specs.Prelude.{◌≡◌, ◌<◌, IfSome, IfOk, OnOk, length, take};
 ghost use Rattle.std.specs.Io.{ReadsAtMost};
 ghost use Rattle.std.specs.Io.KnownBytes.{Appends, Consumes, IsAtEnd};
-ghost use Rattle.console.specs.Printed.{WrittenInside, answer_text, refused_line, refusal_line};
+ghost use Rattle.console.specs.Printed.{WrittenInside, answer_text};
 
 use calls::Refusal;
 use std::io;
@@ -14,7 +14,7 @@ use std::io::{Read, Write};
 // One byte more than a statement or a sheet may have: all that a call needs to refuse a longer one.
 pub const TEXT_SPACE: usize = 65537;
 
-// No literal where it is called: the check would go through each of its elements.
+// Fixed memory, since no heap is used. No literal in the programs' long buffers: the check would go through each of its elements.
 pub fn zeroed<const N: usize>() -> [u8; N]
     ensures { N ≡ length result }
 {
@@ -40,38 +40,6 @@ pub fn read_text<R: Read>(input: &mut R, space: &mut [u8]) -> io::Result<usize>
     Ok(done)
 }
 
-pub fn print<W: Write>(output: &mut W, text: &[u8]) -> io::Result<()>
-    ensures { OnOk result (Appends (W.contents output.old) (W.contents output.new) text.now) }
-{
-    output.write_all(text)
-}
-
-pub fn print_number<W: Write>(output: &mut W, n: u64) -> io::Result<()>
-    ensures { OnOk result (Appends (W.contents output.old) (W.contents output.new) (decimal n)) }
-{
-    write!(output, "{n}")
-}
-
-// A field behind another: a space before it.
-pub fn print_next<W: Write>(output: &mut W, n: u64) -> io::Result<()>
-    ensures { OnOk result (Appends (W.contents output.old) (W.contents output.new) (codes " " ++ decimal n)) }
-{
-    write!(output, " {n}")
-}
-
-// A refusal by its number.
-pub fn print_refused<W: Write>(output: &mut W, number: u64) -> io::Result<()>
-    ensures { OnOk result (Appends (W.contents output.old) (W.contents output.new) (refused_line number)) }
-{
-    writeln!(output, "refused {number}")
-}
-
-pub fn print_refusal<W: Write>(output: &mut W, refusal: Refusal) -> io::Result<()>
-    ensures { OnOk result (Appends (W.contents output.old) (W.contents output.new) (refusal_line refusal)) }
-{
-    writeln!(output, "{refusal}")
-}
-
 // The text that a call wrote and nothing else, or its refusal.
 pub fn print_answer<W: Write>(
     output: &mut W,
@@ -84,8 +52,8 @@ pub fn print_answer<W: Write>(
     match answer {
         Ok(count) => {
             let end = count as usize;
-            print(output, &text[..end])
+            output.write_all(&text[..end])
         }
-        Err(refusal) => print_refusal(output, refusal),
+        Err(refusal) => writeln!(output, "{refusal}"),
     }
 }

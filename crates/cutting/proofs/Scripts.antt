@@ -1,7 +1,7 @@
 -- What is printed of a script is told by how it is cut, and by as much of it as is kept.
 -- Assumes nothing.
 use Rattle.std.specs.Prelude.{Result, Ok, Err}
-use Prim.Native.Nat.{ℕ, ◌+◌, ◌-◌, ◌/◌, ◌≤◌}
+use Prim.Native.Nat.{ℕ, ◌/◌, ◌≤◌}
 use native.Mathlib.Omega.{arith}
 use mathlib.Core.Path.{◌≡◌, refl, sym, ap, ◌∙◌}
 use mathlib.Core.List.{List, ◌++◌}
@@ -15,7 +15,6 @@ use Rattle.calls.specs.Checks.{checked, accepted_or, told_number}
 use Rattle.calls.specs.Refusals.{refusal_number}
 use Rattle.calls.specs.Settings.{dialect_of, settings_of}
 use Rattle.calls.proofs.Checks.{accepts}
-use Rattle.calls.proofs.Storing.{back}
 use Rattle.console.specs.Printed.{refused_line, refusal_line}
 use Rattle.console.proofs.Whole.{accepted_whole}
 use Rattle.script.specs.Answers.{room_checked, cut_checked, cut_number, cut_detail, cut_places}
@@ -23,7 +22,6 @@ use Rattle.script.specs.Parts.{parts}
 use Rattle.script.specs.Places.{places_of}
 use Rattle.script.specs.Settings.{cutter_settings}
 use Rattle.script.proofs.PartWalk.{parts_short}
-use Rattle.tokenizer.specs.Tokens.{tokens}
 use Rattle.cutting.specs.Printed.{parts_printed, cutting_printed}
 
 refusal_some : (refusal : Refusal) → 1 ≤ refusal_number refusal
@@ -96,8 +94,3 @@ module _ (s places : List ℕ) (room : 524288 ≤ length places) where
 pub script_whole : (s : List ℕ) → cutting_printed (take 65537 s) ≡ cutting_printed s
 unfolding cutting_printed
 script_whole s = accepted_whole (λ front settings. parts_printed front (parts front)) 0 0 0 s
-
--- the tokens of a part of the text that is handed on
-pub part_read : (s : List ℕ) (start len : ℕ) (settings : Settings) → settings ≡ cutter_settings
-    → tokens settings (take (start + len - start) (drop start s)) ≡ tokens cutter_settings (take len (drop start s))
-part_read s start len settings e = rw (e, back)

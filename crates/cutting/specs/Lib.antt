@@ -1,2 +1,3 @@
 -- What the program prints.
 pub mod Printed
+pub mod Inner

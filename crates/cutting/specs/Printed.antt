@@ -2,7 +2,8 @@
 use Rattle.std.specs.Prelude.{ℕ, List, [], ◌∷◌, ◌++◌, codes, decimal}
 use Rattle.calls.specs.Checks.{checked, accepted_or}
 use Rattle.console.specs.Printed.{refusal_line}
-use Rattle.script.specs.Parts.{Part, part_text, parts}
+use Rattle.script.specs.declared.Part.{Part}
+use Rattle.script.specs.Parts.{part_text, parts}
 use Rattle.script.specs.Settings.{cutter_settings}
 use Rattle.token_lines.specs.Printed.{next_field, listed}
 use Rattle.tokenizer.specs.Tokens.{tokens}

@@ -4,37 +4,47 @@
 // that is refused it prints `refused` and the number.
 #![tactic(auto)]
 
-ghost use Rattle.std.specs.Prelude.{◌≡◌, ◌+◌, ◌≤◌, IfSome, OnOk, length, take};
+ghost use Rattle.std.specs.Prelude.{◌≡◌, ◌+◌, ◌*◌, ◌≤◌, IfSome, OnOk, length, take};
 ghost use Rattle.std.specs.Io.KnownBytes.{Appends};
 ghost use Rattle.script.specs.Parts.{parts};
 ghost use Rattle.script.specs.Places.{places_of};
+ghost use Rattle.cutting.specs.Inner.{part_at};
 ghost use Rattle.cutting.specs.Printed.{place_line, part_printed, parts_printed, cutting_printed};
 
 use calls::le_at;
-use console::{TEXT_SPACE, print, print_next, print_number, print_refused, read_text, zeroed};
-use script::{cut, cutter_settings};
+use console::{TEXT_SPACE, read_text, zeroed};
+use script::{Part, cut, cutter_settings};
 use std::io;
 use std::io::{Read, Write};
 use token_lines::print_list;
 
-fn print_place<W: Write>(output: &mut W, start: usize, len: usize) -> io::Result<()>
-    ensures { OnOk result (Appends (W.contents output.old) (W.contents output.new) (place_line (record { start = start; len = len }))) }
+// As `cut` writes it.
+fn part_at(place: &[u8]) -> Part
+    requires { 8 ≤ length place.now }
+    ensures { result ≡ part_at place.now }
 {
-    print_number(output, start as u64)?;
-    print_next(output, len as u64)?;
-    print(output, b"\n")
+    Part {
+        start: le_at::<4>(place, 0),
+        len: le_at::<4>(place, 4),
+    }
 }
 
-fn print_part<W: Write>(output: &mut W, script: &[u8], start: usize, len: usize) -> io::Result<()>
-    requires { start + len ≤ length script.now }
-    ensures { OnOk result (Appends (W.contents output.old) (W.contents output.new) (part_printed script.now (record { start = start; len = len }))) }
+fn print_place<W: Write>(output: &mut W, part: Part) -> io::Result<()>
+    ensures { OnOk result (Appends (W.contents output.old) (W.contents output.new) (place_line part)) }
 {
-    print_place(output, start, len)?;
-    let end = start + len;
-    print_list(output, &script[start..end], cutter_settings())
+    let (start, len) = (part.start, part.len);
+    writeln!(output, "{start} {len}")
 }
 
-// The places as `cut` writes them.
+#[tactic(auto, unfolding(crate::specs::Printed::part_printed))]
+fn print_part<W: Write>(output: &mut W, script: &[u8], part: Part) -> io::Result<()>
+    requires { part.start + part.len ≤ length script.now }
+    ensures { OnOk result (Appends (W.contents output.old) (W.contents output.new) (part_printed script.now part)) }
+{
+    print_place(output, part)?;
+    print_list(output, part.text(script), cutter_settings())
+}
+
 fn print_parts<W: Write>(
     output: &mut W,
     script: &[u8],
@@ -46,15 +56,13 @@ fn print_parts<W: Write>(
     requires count_value { count ≡ length (parts script.now) }
     ensures { OnOk result (Appends (W.contents output.old) (W.contents output.new) (parts_printed script.now (parts script.now))) }
 {
-    for i in 0..count {
-        let at = i * 8;
-        let start = le_at::<4>(places, at);
-        let len = le_at::<4>(places, at + 4);
-        print_part(output, script, start, len)?;
+    for place in places.chunks_exact(8).take(count) {
+        print_part(output, script, part_at(place))?;
     }
     Ok(())
 }
 
+#[tactic(auto, using(crate::proofs::Scripts::refused_printed, crate::proofs::Scripts::script_short, crate::proofs::Scripts::places_held, crate::proofs::Scripts::count_held, crate::proofs::Scripts::parts_printed_lem))]
 fn print_cut<W: Write>(output: &mut W, script: &[u8], places: &mut [u8]) -> io::Result<()>
     requires { 524288 ≤ length places.old }
     ensures { OnOk result (Appends (W.contents output.old) (W.contents output.new) (cutting_printed script.now)) }
@@ -63,7 +71,7 @@ fn print_cut<W: Write>(output: &mut W, script: &[u8], places: &mut [u8]) -> io::
     let mut detail = 0;
     cut(script, places, &mut number, &mut detail);
     if number != 0 {
-        return print_refused(output, number);
+        return writeln!(output, "refused {number}");
     }
     print_parts(output, script, places, detail as usize)
 }
@@ -79,7 +87,7 @@ fn answer<R: Read, W: Write>(input: &mut R, output: &mut W) -> io::Result<()>
     print_cut(output, &space[..n], &mut places)
 }
 
-// Ends with the error where standard input or standard output fails.
+// A program needs a `main` of its own. Ends with the error where standard input or standard output fails.
 fn main(rt: HostRuntime) -> io::Result<()> {
     answer(&mut rt.stdin(), &mut rt.stdout())
 }

@@ -1,4 +1,4 @@
 -- What the reading of a sheet uses, and that what is kept of an input is enough.
 mod Sheets
-mod Skipping
+pub mod Skipping
 mod Whole

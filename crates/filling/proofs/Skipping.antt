@@ -4,10 +4,10 @@ use Rattle.std.specs.Io.KnownBytes.{IsAtEnd}
 use Rattle.std.proofs.lemmas.List.{drop_all, drop-drop}
 use Rattle.filling.specs.Input.{Skips}
 
-pub Skips-end : (a b c : Option (List ℕ)) (done count : ℕ) → done ≤ count → Skips a b done → Skips b c 0 → IsAtEnd c → Skips a c count
-Skips-end None b c done count h p q e = tt
-Skips-end (Some xs) b c done count h p q e =
-    let left : c ≡ Some (drop done xs) = subst (λ k. Skips k c 0) p q in
+pub skips_end : (a b c : Option (List ℕ)) (done n count : ℕ) → done ≤ count → Skips a b done → n ≡ 0 → Skips b c n → IsAtEnd c → Skips a c count
+skips_end None b c done n count h p z q e = tt
+skips_end (Some xs) b c done n count h p z q e =
+    let left : c ≡ Some (drop done xs) = subst (λ k. Skips k c 0) p (subst (Skips b c) z q) in
     let none : drop done xs ≡ [] = subst IsAtEnd left e in
     let same : done + (count - done) ≡ count = omega arith in
     let all : drop count xs ≡ drop done xs =

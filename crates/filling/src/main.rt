@@ -20,6 +20,7 @@ use params::fill;
 use std::io;
 use std::io::{Read, Write};
 
+#[tactic(auto, using(console::proofs::AnswersInside::answer_inside, console::proofs::AnswersInside::answer_printed))]
 fn print_filled<W: Write>(
     output: &mut W,
     statement: &[u8],
@@ -54,6 +55,7 @@ fn read_past_piece<R: Read>(input: &mut R, most: usize) -> io::Result<usize>
 }
 
 // Reads past so many bytes, or to the end of the input. A `while`: a turn reads what the input gives.
+#[tactic(auto, using(crate::proofs::Skipping::skips_end))]
 fn read_past<R: Read>(input: &mut R, count: usize) -> io::Result<()>
     ensures { OnOk result (Skips (R.remaining input.old) (R.remaining input.new) count) }
 {
@@ -96,7 +98,7 @@ fn answer<R: Read, W: Write>(input: &mut R, output: &mut W) -> io::Result<()>
     print_filled(output, &statement[..len], &sheet[..sheet_len], &mut space)
 }
 
-// Ends with the error where standard input or standard output fails.
+// A program needs a `main` of its own. Ends with the error where standard input or standard output fails.
 fn main(rt: HostRuntime) -> io::Result<()> {
     answer(&mut rt.stdin(), &mut rt.stdout())
 }

@@ -7,17 +7,18 @@ ghost use Rattle.std.specs.Io.KnownBytes.{Appends};
 ghost use Rattle.listing.specs.Printed.{listing_printed};
 
 use calls::check;
-use console::{TEXT_SPACE, print_refusal, read_text, zeroed};
+use console::{TEXT_SPACE, read_text, zeroed};
 use std::io;
 use std::io::{Read, Write};
 use token_lines::print_list;
 
+#[tactic(auto, unfolding(crate::specs::Printed::listing_printed))]
 fn print_listing<W: Write>(output: &mut W, statement: &[u8]) -> io::Result<()>
     ensures { OnOk result (Appends (W.contents output.old) (W.contents output.new) (listing_printed statement.now)) }
 {
     match check(statement, 0, 0, 0) {
-        Ok(settings) => print_list(output, statement, settings),
-        Err(refusal) => print_refusal(output, refusal),
+        Ok(search) => print_list(output, search.text, search.settings),
+        Err(refusal) => writeln!(output, "{refusal}"),
     }
 }
 
@@ -30,7 +31,7 @@ fn answer<R: Read, W: Write>(input: &mut R, output: &mut W) -> io::Result<()>
     print_listing(output, &space[..n])
 }
 
-// Ends with the error where standard input or standard output fails.
+// A program needs a `main` of its own. Ends with the error where standard input or standard output fails.
 fn main(rt: HostRuntime) -> io::Result<()> {
     answer(&mut rt.stdin(), &mut rt.stdout())
 }

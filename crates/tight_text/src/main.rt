@@ -11,6 +11,7 @@ use std::io;
 use std::io::{Read, Write};
 use tight::tighten;
 
+#[tactic(auto, using(console::proofs::AnswersInside::answer_inside, console::proofs::AnswersInside::answer_printed))]
 fn print_tight<W: Write>(output: &mut W, statement: &[u8], space: &mut [u8]) -> io::Result<()>
     ensures { OnOk result (Appends (W.contents output.old) (W.contents output.new) (tight_printed statement.now (length space.old))) }
 {
@@ -30,7 +31,7 @@ fn answer<R: Read, W: Write>(input: &mut R, output: &mut W) -> io::Result<()>
     print_tight(output, &statement[..n], &mut space)
 }
 
-// Ends with the error where standard input or standard output fails.
+// A program needs a `main` of its own. Ends with the error where standard input or standard output fails.
 fn main(rt: HostRuntime) -> io::Result<()> {
     answer(&mut rt.stdin(), &mut rt.stdout())
 }

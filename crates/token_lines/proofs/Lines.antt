@@ -1,5 +1,5 @@
 -- The lines of the tokens read so far, and those still to read.
-use Rattle.std.proofs.Common.{◌≡◌, ℕ, List, [], ◌∷◌, ◌++◌, Option, Result, Ok, Err, OnOk, sym, ap, ◌∙◌, append_assoc, append-nil}
+use Rattle.std.proofs.Common.{◌≡◌, ℕ, List, [], ◌∷◌, ◌++◌, Option, Result, Ok, Err, OnOk, sym, ap, ◌∙◌, append_assoc, append-nil, subst}
 use Rattle.std.proofs.KnownBytes.{Appends-trans}
 use Rattle.std.specs.Io.KnownBytes.{Appends}
 use Rattle.tokenizer.specs.declared.Token.{Token}
@@ -19,7 +19,9 @@ module _ (level : ℕ) (ts : List Token) (passed whole : List ℕ) (before : pas
   unfolding lines_from
   lines_end f = sym (append-nil passed) ∙ ap (λ us. passed ++ lines_from level us) (sym f) ∙ before
 
--- what is printed last is appended to what was printed before
-pub appends_last : {A E : Type 0} (r : Result A E) (a b c : Option (List ℕ)) (xs ys : List ℕ) → Appends a b xs → OnOk r (Appends b c ys) → OnOk r (Appends a c (xs ++ ys))
-appends_last (Ok x) a b c xs ys p q = Appends-trans a b c xs ys p q
-appends_last (Err e) a b c xs ys p q = tt
+-- a line of four parts, whose last three are printed together
+pub line_last : {A E : Type 0} (r : Result A E) (a b c : Option (List ℕ)) (w x y z : List ℕ) → Appends a b w → OnOk r (Appends b c (x ++ y ++ z)) → OnOk r (Appends a c (w ++ x ++ y ++ z))
+line_last (Ok v) a b c w x y z p q =
+    let joined : w ++ (x ++ y ++ z) ≡ w ++ x ++ y ++ z = sym (append_assoc w (x ++ y) z) ∙ ap (λ l. l ++ z) (sym (append_assoc w x y)) in
+    subst (Appends a c) joined (Appends-trans a b c w (x ++ y ++ z) p q)
+line_last (Err e) a b c w x y z p q = tt

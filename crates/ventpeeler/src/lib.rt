@@ -1,4 +1,4 @@
-// The boundary for C.
+// The boundary for C: each call has the arguments that the header gives it.
 #![tactic(auto)]
 
 ghost use Rattle.std.specs.Prelude.{◌≡◌, length};
@@ -20,6 +20,7 @@ fn pack(answer: Result<u64, Refusal>) -> u64
     number * 72057594037927936 + detail.min(72057594037927935)
 }
 
+#[tactic(auto, using(crate::proofs::Packing::written_fits, crate::proofs::Packing::written_told, crate::proofs::Packing::refused_told))]
 #[unsafe(no_mangle)]
 pub extern "C" fn ventpeeler_tokenize(
     statement: &[u8],

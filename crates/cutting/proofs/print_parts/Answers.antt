@@ -1,39 +1,32 @@
-use Rattle.std.proofs.Common.{[], ◌++◌, arith, subst}
+use Rattle.std.proofs.Common.{[], ◌++◌, ◌∙◌, ap, subst}
 use Rattle.std.specs.Io.KnownBytes.{Appends}
 use Rattle.std.proofs.KnownBytes.{Appends-nil, Appends-trans}
-use Rattle.script.proofs.PartWalk.{parts_short}
+use Rattle.std.specs.Slice.Iter.{chunks_exact_rest, chunks_exact_size}
 use Rattle.cutting.specs.Printed.{part_printed}
-use Rattle.cutting.proofs.PartsLeft.{left_start, left_end, place_room, place_inside, left_more}
+use Rattle.cutting.proofs.PartsLeft.{left_start, left_end, place_inside, left_more}
 use Rattle.cutting.proofs.print_parts.Goals as goal
 
-pub loop-i-init : goal.loop-i-init
-loop-i-init g c = ([], Appends-nil _, left_start _ _ _ c.requires.places_value c.requires.count_value)
-
-pub overflow_mul-at : goal.overflow_mul-at
-overflow_mul-at g c = record { fits = omega (arith, parts_short c.args.script.now) }
-
-pub le_at-start-requires-clause-in_bounds : goal.le_at-start-requires-clause-in_bounds
-le_at-start-requires-clause-in_bounds g c = omega (arith, place_room _ _ _ _ _ c.loop-i.invariant.2 c.loop-i-test.true)
-
-pub overflow_add-at : goal.overflow_add-at
-overflow_add-at g c = record { fits = omega (arith, parts_short c.args.script.now) }
-
-pub le_at-len-requires-clause-in_bounds : goal.le_at-len-requires-clause-in_bounds
-le_at-len-requires-clause-in_bounds g c = omega (arith, place_room _ _ _ _ _ c.loop-i.invariant.2 c.loop-i-test.true)
+pub loop-place-init : goal.loop-place-init
+loop-place-init g c =
+    let source = c.take-place-items.ensures.source in
+    let rest = ap chunks_exact_rest source ∙ c.chunks_exact.ensures.rest in
+    let size = ap chunks_exact_size source ∙ c.chunks_exact.ensures.size in
+    let many = c.take-place-items.ensures.count ∙ c.requires.count_value in
+    ([], Appends-nil _, rw c.into_iter-place-iterator.ensures.into_iter_gives (left_start _ _ c.take-place-items.result rest size many c.requires.places_value))
 
 pub print_part-requires : goal.print_part-requires
-print_part-requires g c =
-    place_inside _ _ _ _ _ c.loop-i.invariant.2 c.loop-i-test.true c.requires.script_len_bound _ _ c.le_at-start.ensures.value c.le_at-len.ensures.value
+print_part-requires g c = place_inside _ c.loop-place.place-iterator c.next.new.self _ c.loop-place.invariant.2 c.in-Some.place c.in-Some.ensures.steps c.requires.script_len_bound _ c.part_at.ensures
 
-pub loop-i-preserved : goal.loop-i-preserved
-loop-i-preserved g c =
-    let before = c.loop-i.invariant in (
-      before.0 ++ part_printed c.args.script.now (record { start = c.le_at-start.result; len = c.le_at-len.result }),
+pub loop-place-preserved : goal.loop-place-preserved
+loop-place-preserved g c =
+    let before = c.loop-place.invariant in (
+      before.0 ++ part_printed c.args.script.now c.part_at.result,
       Appends-trans _ _ _ _ _ before.1 c.in_ok-print_part.ensures,
-      left_more _ _ _ _ _ before.2 c.loop-i-test.true c.requires.script_len_bound _ _ c.le_at-start.ensures.value c.le_at-len.ensures.value,
+      left_more _ c.loop-place.place-iterator c.next.new.self before.0 before.2 c.in-Some.place c.in-Some.ensures.steps c.requires.script_len_bound _ c.part_at.ensures,
     )
 
 pub returns : goal.returns
 returns g c =
-    let before = c.loop-i.invariant in
-    subst (Appends (g.W.Write.contents c.args.output.now) (g.W.Write.contents c.loop-i.output)) (left_end _ _ _ _ _ before.2 (omega arith)) before.1
+    let before = c.loop-place.invariant in
+    let whole = left_end _ c.loop-place.place-iterator c.next.new.self _ before.2 c.in-None.ensures.steps in
+    subst (Appends (g.W.Write.contents c.args.output.now) (g.W.Write.contents c.loop-place.output)) whole before.1

@@ -1,16 +1,8 @@
-use Rattle.std.proofs.Common.{IfSome, length, ◌≡◌, take, sym, ◌∙◌, subst}
-use Rattle.std.specs.Io.KnownBytes.{Appends}
+use Rattle.std.proofs.Common.{sym, ◌∙◌}
 use Rattle.console.proofs.Whole.{whole_input}
 use Rattle.listing.specs.Printed.{listing_printed}
 use Rattle.listing.proofs.Statements.{listing_whole}
 use Rattle.listing.proofs.answer.Goals as goal
 
 pub returns : goal.returns
-returns g c =
-    let before = g.W.Write.contents c.args.output.now in
-    let after = g.W.Write.contents c.print_listing.new.output in
-    let kept = take c.in_ok-n.n c.read_text.new.space in
-    let room : length c.read_text.new.space ≡ 65537 = c.read_text.auto.space ∙ sym c.zeroed-space.ensures in
-    whole_input _ c.print_listing.result (λ s. Appends before after (listing_printed s)) kept 65537
-    (subst (λ m. IfSome (g.R.Read.remaining c.args.input.now) (λ xs. kept ≡ take m xs)) room c.in_ok-n.ensures.text)
-    (λ xs shown. subst (Appends before after) (listing_whole xs) shown) c.print_listing.ensures
+returns g c = whole_input _ _ _ _ listing_printed c.read_text.new.space _ (c.zeroed-space.ensures ∙ sym c.read_text.auto.space) c.in_ok-n.ensures.text listing_whole c.print_listing.ensures
