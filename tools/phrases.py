@@ -11,7 +11,7 @@ phrases only one of them has.
 
 `entries` in Inner/Entries.antt names the lists in the order of trying, each with its
 group. A list is made of the items below, with `∷` or `++` between them; at any other
-item this program stops. That the table holds the lists is proved (proofs/Table.antt):
+item this program stops. That the table holds the lists is proved (proofs/Lengths.antt):
 nothing rests on this program.
 """
 
