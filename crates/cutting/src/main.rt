@@ -29,6 +29,7 @@ fn part_at(place: &[u8]) -> Part
     }
 }
 
+// By a function: a `Display` would have to stand beside `Part`, in a crate that prints nothing.
 fn print_place<W: Write>(output: &mut W, part: Part) -> io::Result<()>
     ensures { OnOk result (Appends (W.contents output.old) (W.contents output.new) (place_line part)) }
 {
@@ -76,7 +77,8 @@ fn print_cut<W: Write>(output: &mut W, script: &[u8], places: &mut [u8]) -> io::
     print_parts(output, script, places, detail as usize)
 }
 
-// Of a longer script than a call accepts enough is read that it is refused as the whole is.
+// Of a longer script than a call accepts enough is read that it is refused as the whole is. The buffers and the call are each
+// program's own: one function for all would take both, and be no plainer.
 fn answer<R: Read, W: Write>(input: &mut R, output: &mut W) -> io::Result<()>
     ensures { OnOk result (IfSome (R.remaining input.old) (λ script. Appends (W.contents output.old) (W.contents output.new) (cutting_printed script))) }
 {

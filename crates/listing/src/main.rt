@@ -22,7 +22,8 @@ fn print_listing<W: Write>(output: &mut W, statement: &[u8]) -> io::Result<()>
     }
 }
 
-// Of a longer statement than a call accepts enough is read that it is refused as the whole is.
+// Of a longer statement than a call accepts enough is read that it is refused as the whole is. The buffers and the call are each
+// program's own: one function for all would take both, and be no plainer.
 fn answer<R: Read, W: Write>(input: &mut R, output: &mut W) -> io::Result<()>
     ensures { OnOk result (IfSome (R.remaining input.old) (λ statement. Appends (W.contents output.old) (W.contents output.new) (listing_printed statement))) }
 {

@@ -27,6 +27,7 @@ impl<'a> Headed<'a> {
     ghost use Rattle.params.specs.Sheet.{params_of, count_of, is_named, width, lengths_at, past, place_of, fills_exactly, bodies_are_utf8, is_kind_and_count, is_sheet_length, is_sheet};
     ghost use Rattle.params.specs.Inner.Bodies.{are_bodies};
 
+    // By `if`: what the ghost fields say holds only behind the test.
     #[tactic(auto, unfolding(crate::specs::Sheet::is_sheet_length))]
     pub fn read(bytes: &'a [u8]) -> Option<Self>
         ensures value { is_some result ≡ is_sheet_length (length bytes.now) }

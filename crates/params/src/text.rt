@@ -49,6 +49,7 @@ fn put_for(params: &Params<'_>, token: PlacedToken<'_>, output: &mut [u8], at: u
     at + token.token.len
 }
 
+// The walk that measures and the one that writes are two, here as in tight: what each does with a token is most of it.
 pub fn filled_length(filling: Filling<'_>) -> usize
     ensures { result ≡ length (text_of filling.entry) }
 {

@@ -84,6 +84,7 @@ fn learn_marked(text: &[u8], from: usize, dialect: Dialect, hints: &mut Hints)
     }
 }
 
+// As a mark, but of another sign and another hint: one function for both would take both, and be no plainer.
 fn learn_dashes(text: &[u8], from: usize, hints: &mut Hints)
     requires { Truthful hints.old text.now }
     ensures { Truthful hints.new text.now }

@@ -63,7 +63,7 @@ pub enum TokenKind {
 }
 
 // What a placeholder asks for: a name that stands in the text, such a name with escapes to undo, or a place that counts from 0 or
-// from 1. Many ask for nothing.
+// from 1. Many ask for nothing. Start and length, as a record has them.
 #[derive(Clone, Copy)]
 pub enum Key {
     Named { start: usize, len: usize },

@@ -27,6 +27,8 @@ fn signed_digits(rest: &[u8]) -> Option<usize>
     marked_digits(rest, b"-+").or_else(|| digits(rest))
 }
 
+// A front, and what stands behind it by `?`, as `block_comment`, `ident_taken` and their like: a combinator would take each as a closure, and
+// be no plainer.
 fn exponent(rest: &[u8]) -> Option<usize>
     ensures { result ≡ exponent rest.now }
 {

@@ -69,7 +69,7 @@ fn token_for(group: Group, value: &[u8], after_between: bool, last: TopLevel) ->
     }
 }
 
-// A letter or `$`.
+// A letter or `$`. (By `match`: no closure where every token passes.)
 #[inline(always)]
 #[tactic(auto, using(crate::proofs::FirstLetter::letter_first, crate::proofs::FirstLetter::other_first, crate::proofs::FirstLetter::no_first))]
 fn may_be_reserved(rest: &[u8]) -> bool

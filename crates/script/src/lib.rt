@@ -9,7 +9,7 @@ mod places;
 pub use cutting::cut;
 pub use parts::cutter_settings;
 
-// A part of a script, by its place.
+// A part of a script, by its place: start and length, as `cut` writes it.
 #[derive(Clone, Copy)]
 pub struct Part {
     pub start: usize,

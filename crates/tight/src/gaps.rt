@@ -22,6 +22,7 @@ fn gap_becomes(here: Option<TokenKind>, gap: &[u8]) -> Option<Gap>
     Some(gap_after(here?, gap))
 }
 
+// A return alone is kept. (By `filter` a reference would be asked, no plainer.)
 pub fn gap_at_end(gap: Option<Gap>) -> Option<Gap>
     ensures { result ≡ at_end gap }
 {

@@ -19,7 +19,8 @@ fn print_tight<W: Write>(output: &mut W, statement: &[u8], space: &mut [u8]) -> 
     print_answer(output, answer, space)
 }
 
-// Of a longer statement than a call accepts enough is read that it is refused as the whole is.
+// Of a longer statement than a call accepts enough is read that it is refused as the whole is. The buffers and the call are each
+// program's own: one function for all would take both, and be no plainer.
 fn answer<R: Read, W: Write>(input: &mut R, output: &mut W) -> io::Result<()>
     ensures { OnOk result (IfSome (R.remaining input.old) (λ statement.
         Appends (W.contents output.old) (W.contents output.new) (tight_printed statement 65537))) }

@@ -13,6 +13,7 @@ use std::io;
 use std::io::Write;
 use tokenizer::{KeyWords, Token, Tokens};
 
+// By functions: a `Display` would have to stand beside `Token`, in a crate that prints nothing.
 fn print_place<W: Write>(output: &mut W, token: Token) -> io::Result<()>
     ensures { OnOk result (Appends (W.contents output.old) (W.contents output.new) (place_fields token)) }
 {

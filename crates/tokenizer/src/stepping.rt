@@ -43,7 +43,7 @@ fn given_out(joins: bool, kind: TokenKind) -> TokenKind
     kind
 }
 
-// A key's places, counted from the statement's start.
+// A key's places, counted from the statement's start: arm by arm, as `Key` has them.
 #[inline(always)]
 fn place_key(at: usize, key: Option<Key>) -> Option<Key>
     requires { at + key_start key < 2 ^ 64 }
