@@ -137,23 +137,19 @@ def listed(title, table, keys):
             print(f'- `{key[0]}`: `{" ".join(table[key]).replace("    ", "")}`')
 
 
-print('### Public functions')
-began, now, private = functions(old_top, True), functions(new_top, True), functions(new_top, False)
-for key in began:
-    if key in private and private[key] != began[key]:
-        print(f'\n`{key[0]}`, `{key[1]}`:')
-        told(began[key], private[key])
-listed('Gone, or under another type or name:', began, [k for k in began if k not in private])
-listed('New:', now, [k for k in now if k not in began])
+def compared(title, began, now, anywhere):
+    """Old and new of what changed, then what is gone and what is new; `anywhere` has also what is no longer public."""
+    print(title)
+    for key in began:
+        if key in anywhere and anywhere[key] != began[key]:
+            print(f'\n`{key[0]}`, `{key[1]}`:')
+            told(began[key], anywhere[key])
+    listed('Gone, or under another type or name:', began, [k for k in began if k not in anywhere])
+    listed('New:', now, [k for k in now if k not in began])
 
-print('\n### Types and what they say of their values')
-began, now = types(old_top), types(new_top)
-for key in began:
-    if key in now and now[key] != began[key]:
-        print(f'\n`{key[0]}`, `{key[1]}`:')
-        told(began[key], now[key])
-listed('Gone:', began, [k for k in began if k not in now])
-listed('New:', now, [k for k in now if k not in began])
+
+compared('### Public functions', functions(old_top, True), functions(new_top, True), functions(new_top, False))
+compared('\n### Types and what they say of their values', types(old_top), types(new_top), types(new_top))
 
 for title, read in (('Definitions', definitions), ('Laws and theorems', laws)):
     print(f'\n### {title}')
