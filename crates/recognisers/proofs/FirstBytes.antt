@@ -1,7 +1,7 @@
 -- With which first bytes a recogniser can succeed, and which of its forms is left behind one of them.
 -- Assumes nothing.
-use Rattle.std.proofs.Common.{Option, Some, None}
-use Prim.Native.Nat.{ℕ, ◌+◌, ◌-◌, ◌≤◌, ◌<◌}
+use Rattle.std.proofs.Common.{Option, Some, None, slice_get}
+use Prim.Native.Nat.{ℕ, ◌+◌, ◌-◌, ◌≤◌, ◌<◌, min}
 use native.Mathlib.Omega.{arith}
 use mathlib.Core.Path.{◌≡◌, refl, sym, ap, ◌∙◌}
 use mathlib.Core.List.{List, [], ◌∷◌}
@@ -21,15 +21,15 @@ use Rattle.characters.proofs.Within.{within_low, within_high}
 use Rattle.recognisers.specs.declared.Piece.{Piece}
 use Rattle.recognisers.specs.declared.Dialect.{Dialect}
 use Rattle.recognisers.specs.declared.Dialect.TheVariants.{Generic, PostgreSql, SQLServer}
-use Rattle.recognisers.specs.declared.TokenKind.TheVariants.{LineComment, BlockComment, TypeSpecifier, OpenParen, CloseParen}
+use Rattle.recognisers.specs.declared.TokenKind.TheVariants.{LineComment, BlockComment, TypeSpecifier, OpenParen, CloseParen, Operator}
 use Rattle.recognisers.specs.Text.{bytes}
-use Rattle.recognisers.specs.Taking.{Taker, more, or, done, one, spelled, typed, capital, literal, caseless, blanks, end_of_word, is_digit, count, digit1, contains, starts_with, starts_among}
+use Rattle.recognisers.specs.Taking.{Taker, more, or, done, one, spelled, typed, capital, literal, caseless, blanks, end_of_word, is_digit, count, digit1, at_least, contains, starts_with, starts_among}
 use Rattle.recognisers.specs.Pieces.{token_of, alt}
 use Rattle.recognisers.specs.Comment.{till_line_ending, through_block_end, get_comment_token}
 use Rattle.recognisers.specs.TypeSpecifier.{get_type_specifier_token}
 use Rattle.recognisers.specs.Strings.{hex_taken, quoted_taken, string_taken, placeholder_quoted_taken, placeholder_string_taken}
 use Rattle.recognisers.specs.Parens.{in_postgre_sql, get_open_paren_token, get_close_paren_token}
-use Rattle.recognisers.specs.Words.{get_whitespace_token}
+use Rattle.recognisers.specs.Words.{get_whitespace_token, is_operator, get_operator_token}
 use Rattle.recognisers.specs.Number.{decimal_number, scientific_notation, unsigned, get_number_token}
 use Rattle.recognisers.specs.Placeholder.{indexed_taken, get_indexed_placeholder_token, ident_taken, get_ident_named_placeholder_token, braced_taken, get_braced_named_placeholder_token, string_named_taken, get_string_named_placeholder_token, get_placeholder_token}
 
@@ -404,3 +404,24 @@ module _ (k : ℕ) (t : Option ℕ) (r : Option Piece) (s : List ℕ) (e : start
 
     pub close_other : (k ≡ 41 → ⊥) → (k ≡ 93 → ⊥) → t ≡ or (caseless (bytes "END") (blanks (caseless (bytes "CASE") end_of_word)) s) (caseless (bytes "END") end_of_word s) → r ≡ token_of CloseParen t → r ≡ get_close_paren_token dialect s
     close_other n m f g = g ∙ (ap (token_of CloseParen) f ∙ close_left dialect s (first_not k s 41 e n) (first_not k s 93 e m))
+
+-- ---- a run of operators needs one
+
+module _ (s : List ℕ) where
+  pub no_operator_text : None ≡ slice_get s 0 → None ≡ get_operator_token s
+  unfolding get_operator_token count
+  no_operator_text q = go s q
+    where
+      go : (s : List ℕ) → None ≡ slice_get s 0 → None ≡ token_of Operator (at_least 2 (min (count is_operator s) 5))
+      go [] q = refl
+      go (a ∷ s) q = absurd (let z : ⊥ = cc in z)
+
+  pub no_operator : (b : ℕ) → Some b ≡ slice_get s 0 → is_operator b ≡ false → None ≡ get_operator_token s
+  unfolding get_operator_token count
+  no_operator b q f = go s q
+    where
+      go : (s : List ℕ) → Some b ≡ slice_get s 0 → None ≡ token_of Operator (at_least 2 (min (count is_operator s) 5))
+      go [] q = absurd (let z : ⊥ = cc in z)
+      go (a ∷ s) q =
+          let k : b ≡ a = cc in
+          rw (← k, f) refl

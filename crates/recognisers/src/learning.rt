@@ -9,7 +9,7 @@ use crate::Dialect;
 use crate::comment::line_break;
 use crate::hints::Hints;
 use crate::placeholders::through_brace;
-use crate::scan::{is_lone, stands_at};
+use crate::scan::{is_among, is_lone, stands_at};
 use crate::strings::take_till_escaping;
 
 // The length that is known to lack something, with a look at the rest from a place on.
@@ -95,7 +95,7 @@ fn learn_dashes(text: &[u8], from: usize, hints: &mut Hints)
 }
 
 // By the opener at a place where it is a token by itself: each byte has a look or a hint of its own.
-pub fn learn_opener(text: &[u8], at: usize, dialect: Dialect, hints: &mut Hints)
+fn learn_by(text: &[u8], at: usize, dialect: Dialect, hints: &mut Hints)
     requires at_in_bounds { at < length text.now }
     requires truthful { Truthful hints.old text.now }
     ensures { Truthful hints.new text.now }
@@ -118,5 +118,17 @@ pub fn learn_opener(text: &[u8], at: usize, dialect: Dialect, hints: &mut Hints)
         b'-' => learn_dashes(text, from, hints),
         b'@' | b':' => learn_marked(text, from, dialect, hints),
         _ => {}
+    }
+}
+
+// Few operators are openers.
+#[inline(always)]
+pub fn learn_opener(text: &[u8], at: usize, dialect: Dialect, hints: &mut Hints)
+    requires at_in_bounds { at < length text.now }
+    requires truthful { Truthful hints.old text.now }
+    ensures { Truthful hints.new text.now }
+{
+    if is_among(b"'\"{[#-@:", text[at]) {
+        learn_by(text, at, dialect, hints);
     }
 }

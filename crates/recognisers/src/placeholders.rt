@@ -3,7 +3,8 @@ ghost use Rattle.std.specs.Prelude.{◌≡◌, false, not, cond, ◌&&◌, ◌-�
 ghost use Rattle.recognisers.specs.declared.Key.TheVariants.{Named};
 ghost use Rattle.recognisers.specs.declared.TokenKind.TheVariants.{Placeholder};
 ghost use Rattle.recognisers.specs.Taking.{one, literal, contains, starts_with};
-ghost use Rattle.recognisers.specs.Text.{byte};
+ghost use Rattle.recognisers.specs.Text.{byte, bytes};
+ghost use Rattle.recognisers.specs.Inner.FirstAmong.{FirstAmong};
 ghost use Rattle.recognisers.specs.Pieces.{piece, alt};
 ghost use Rattle.recognisers.specs.Strings.{placeholder_string_taken};
 ghost use Rattle.recognisers.specs.Placeholder.{number_of, indexed, indexed_key, indexed_taken, get_indexed_placeholder_token, placeholder_name, ident_taken, get_ident_named_placeholder_token, through_brace, braced_text, braced_taken, get_braced_named_placeholder_token, has_escape, string_key, string_named_taken, get_string_named_placeholder_token, get_placeholder_token};
@@ -209,10 +210,10 @@ fn name_or_string(rest: Rest<'_>) -> Option<Piece>
 
 // Each alternative is tried only where those before it recognise nothing: `$1$1..` would be one long name.
 #[inline(always)]
-pub fn get_placeholder_token(rest: Rest<'_>, named: bool) -> Option<Piece>
+fn placeholder(first: u8, rest: Rest<'_>, named: bool) -> Option<Piece>
+    requires { FirstAmong (bytes "?@:${") rest.text.now (Some first) }
     ensures { result ≡ get_placeholder_token named rest.entry.dialect rest.entry.text.now }
 {
-    let first = first_among(rest.text, b"?@:${")?;
     if first == b'{' {
         return get_braced_named_placeholder_token(rest);
     }
@@ -220,4 +221,13 @@ pub fn get_placeholder_token(rest: Rest<'_>, named: bool) -> Option<Piece>
         return Some(piece);
     }
     name_or_string(rest)
+}
+
+// What the alternatives answer through memory is made ready only where one may begin.
+#[inline(always)]
+pub fn get_placeholder_token(rest: Rest<'_>, named: bool) -> Option<Piece>
+    ensures { result ≡ get_placeholder_token named rest.entry.dialect rest.entry.text.now }
+{
+    let first = first_among(rest.text, b"?@:${")?;
+    placeholder(first, rest, named)
 }

@@ -24,6 +24,7 @@ pub fn get_whitespace_token(rest: &[u8]) -> Option<Piece>
 }
 
 // In two halves: eight bytes are one test.
+#[inline(always)]
 fn is_operator(b: u8) -> bool
     ensures { result ≡ is_operator b }
 {
@@ -45,11 +46,15 @@ fn few_operators(rest: &[u8]) -> usize
     count_operators(&rest[..rest.len().min(5)])
 }
 
+// A run is counted only where one begins.
 #[inline(always)]
 pub fn get_operator_token(rest: &[u8]) -> Option<Piece>
     ensures { result ≡ get_operator_token rest.now }
 {
-    token_of(TokenKind::Operator, at_least(2, few_operators(rest)))
+    if is_operator(*rest.first()?) {
+        return token_of(TokenKind::Operator, at_least(2, few_operators(rest)));
+    }
+    None
 }
 
 // The end of the word.

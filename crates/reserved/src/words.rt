@@ -32,6 +32,7 @@ fn alias_length(value: &[u8]) -> usize
     value.len()
 }
 
+#[inline(always)]
 fn top_level_token(value: &[u8], last: TopLevel) -> Option<Piece>
     ensures { result ≡ top_level_token last value.now (Some (length value.now)) }
 {
@@ -44,6 +45,7 @@ fn top_level_token(value: &[u8], last: TopLevel) -> Option<Piece>
     })
 }
 
+#[inline(always)]
 #[tactic(auto, using(recognisers::proofs::LibraryWords::equal, std::proofs::lemmas::List::take_all))]
 fn newline_token(value: &[u8], after_between: bool) -> Option<Piece>
     ensures { result ≡ newline_token after_between value.now (Some (length value.now)) }
@@ -55,6 +57,7 @@ fn newline_token(value: &[u8], after_between: bool) -> Option<Piece>
 }
 
 // The token that a phrase makes, by its bytes.
+#[inline(always)]
 fn token_for(group: Group, value: &[u8], after_between: bool, last: TopLevel) -> Option<Piece>
     ensures { result ≡ token_for after_between last value.now (Some (group, length value.now)) }
 {

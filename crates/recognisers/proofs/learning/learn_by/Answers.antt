@@ -1,6 +1,6 @@
 use Rattle.std.proofs.Common.{rules}
 use Rattle.recognisers.proofs.Unclosed.{single_known, double_known, brace_hint, single_learnt, double_learnt, brace_learnt, known_looked, brace_looked}
-use Rattle.recognisers.proofs.learning.learn_opener.Goals as goal
+use Rattle.recognisers.proofs.learning.learn_by.Goals as goal
 
 pub returns-in-39 : goal.returns-in-39
 returns-in-39 c = single_learnt _ _ _ c.requires.truthful (known_looked _ _ _ (λ r h. search rules) _ _ _ _ (single_known _ _ c.requires.truthful) c.known_behind-hints.ensures)
