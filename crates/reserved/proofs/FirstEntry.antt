@@ -39,6 +39,10 @@ module _ (es : List Entry) (s : List ℕ) (i : ℕ) (d : Entry) (w : SearchedTo 
   pub found_later : None ≡ entry_end (get_or es i d).0 (get_or es i d).1.now s → SearchedTo es s (i + 1)
   found_later e = record { same = found ∙ rw (← e, add-one i) }
 
+  -- whatever its group
+  pub found_apart : (words : List ℕ) → words ≡ (get_or es i d).1.now → ((group : Group) → None ≡ entry_end group words s) → SearchedTo es s (i + 1)
+  found_apart words q f = found_later (rw (← q) (f (get_or es i d).0))
+
 pub found_nowhere : (es : List Entry) (s : List ℕ) (i : ℕ) → SearchedTo es s i → length es ≤ i → None ≡ find_entry (listed es) s
 unfolding find_entry listed
 found_nowhere es s i w h = sym (w.same ∙ rw (drop_of_length-le es h))

@@ -3,18 +3,19 @@
 use Rattle.std.proofs.Common.{Option, Some, None, slice_get}
 use Rattle.std.specs.Char.{to_ascii_uppercase}
 use Prim.Native.Nat.{ℕ, suc, ◌+◌, ◌-◌, ◌^◌, ◌≤◌, ◌<◌, zero-le}
-use native.Mathlib.Nat.{add-zero}
+use native.Mathlib.Nat.{add-zero, le_of_suc-le-suc, not-suc-le-zero}
 use native.Mathlib.Numerals.{add-one}
 use native.Mathlib.Omega.{arith}
 use mathlib.Core.Path.{◌≡◌, refl, sym, ap, ◌∙◌}
 use mathlib.Core.List.{List, [], ◌∷◌}
-use mathlib.Core.Bool.{Bool, true, false, cond}
+use mathlib.Core.Bool.{Bool, true, false, cond, not}
 use lib.ListN.{length, drop, take, get_or, drop_of_length-le, length-drop}
 use lib.Seq.{drop-cons, drop-drop}
 use lib.Dec.{eqb}
 use mir.Syntax.{w64}
 use mir.Val.{Fits}
-use borrow.Author.Tests.{eq-eqb, ne_eqb}
+use borrow.Author.Tests.{eq-eqb, ne_eqb, not-true}
+use Rattle.characters.specs.Ranges.{within}
 use Rattle.characters.specs.Classes.{is_whitespace}
 use Rattle.characters.specs.Character.{code_point}
 use Rattle.characters.specs.Runs.{in_class, run}
@@ -226,3 +227,33 @@ module _ (group : Group) (words s : List ℕ) (n : ℕ) (e : Some n ≡ walk wor
         let i = words_inside words s n e in
         let j : taken u ≤ length (drop n r) = rw h (ending_inside group (drop n r)) in
         omega (arith, length-drop n r, ap length k)
+
+-- ---- words of two letters or more do not stand where the second letter is another
+
+second_other : (group : Group) (v w : ℕ) (words s : List ℕ) → (v ≡ 32 → ⊥) → (w ≡ 32 → ⊥) → (w ≡ capital (get_or s 1 0) → ⊥) → None ≡ entry_end group (v ∷ w ∷ words) s
+unfolding entry_end walk one
+second_other group v w words [] f g h = rw (ne_eqb v 32 f)
+second_other group v w words (a ∷ s) f g h = rw (ne_eqb v 32 f, last s h) (sym (none_more (eqb (capital a) v)))
+  where
+    last : (s : List ℕ) → (w ≡ capital (get_or s 0 0) → ⊥) → walk (w ∷ words) (ending group) s ≡ None
+    last [] n = rw (ne_eqb w 32 g)
+    last (b ∷ s) n = rw (ne_eqb w 32 g, ne_eqb (capital b) w (λ e. n (sym e)))
+
+    none_more : (t : Bool) → cond t (more 1 None) None ≡ None
+    none_more true = refl
+    none_more false = refl
+
+pub second_apart : (group : Group) (words s : List ℕ) → 2 ≤ length words → (get_or words 0 0 ≡ 32 → ⊥) → (get_or words 1 0 ≡ 32 → ⊥) → (get_or words 1 0 ≡ capital (get_or s 1 0) → ⊥) → None ≡ entry_end group words s
+second_apart group [] s l f g h = absurd (not-suc-le-zero l)
+second_apart group (v ∷ []) s l f g h = absurd (not-suc-le-zero (le_of_suc-le-suc l))
+second_apart group (v ∷ w ∷ words) s l f g h = second_other group v w words s f g h
+
+-- the second byte in capitals, where there is one
+pub second_some : (s : List ℕ) (b x : ℕ) → b ≡ get_or s 1 0 → x ≡ to_ascii_uppercase b → x ≡ capital (get_or s 1 0)
+second_some s b x e f = f ∙ upper b ∙ ap capital e
+
+pub second_none : (s : List ℕ) → length s ≤ 1 → 0 ≡ capital (get_or s 1 0)
+unfolding capital within
+second_none [] l = refl
+second_none (a ∷ []) l = refl
+second_none (a ∷ b ∷ s) l = absurd (not-suc-le-zero (le_of_suc-le-suc l))

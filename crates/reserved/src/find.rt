@@ -1,6 +1,7 @@
 // A phrase at the start of a rest, and the first of the phrases.
-ghost use Rattle.std.specs.Prelude.{◌≡◌, [], ◌∷◌, false, ◌≤◌, eqb, length, drop};
-ghost use Rattle.recognisers.specs.Taking.{done};
+ghost use Rattle.std.specs.Prelude.{◌≡◌, ℕ, List, [], ◌∷◌, true, false, None, ◌≤◌, eqb, length, drop, get_or};
+ghost use Rattle.recognisers.specs.Taking.{done, capital};
+ghost use Rattle.reserved.specs.declared.entries.Group.{Group};
 ghost use Rattle.reserved.specs.Phrases.{walk};
 ghost use Rattle.reserved.specs.Inner.Entries.{listed, entries, entries_of, entries_long, if_exists, ending, entry_end, find_entry};
 
@@ -21,6 +22,28 @@ fn letter_step(rest: &[u8], w: u8) -> Option<usize>
     } else {
         None
     }
+}
+
+// The second byte in capitals; 0, which is no letter, where there is none.
+#[inline(always)]
+fn second_capital(rest: &[u8]) -> u8
+    ensures { result ≡ capital (get_or rest.now 1 0) }
+{
+    match rest.get(1) {
+        Some(b) => b.to_ascii_uppercase(),
+        None => 0,
+    }
+}
+
+// Words that begin with two letters, of which the second is another. It tells most entries that do not stand there.
+#[inline(always)]
+fn second_differs(second: u8, words: &[u8]) -> bool
+    ensures { (group : Group) (s : List ℕ) → second ≡ capital (get_or s 1 0) → result ≡ true → None ≡ entry_end group words.now s }
+{
+    if words.len() < 2 || words[0] == b' ' || words[1] == b' ' {
+        return false;
+    }
+    words[1] != second
 }
 
 // Places lie inside the rest: from any place, by `get`, `tokenize` takes 4 % longer on searches and 8 % on reserved words.
@@ -84,7 +107,6 @@ impl Gaps<'_> {
         end_of_word(&self.rest[from..])
     }
 
-    #[inline(always)]
     #[tactic(auto, using(crate::proofs::PhraseWalk::words_inside, crate::proofs::PhraseWalk::entry_no, crate::proofs::PhraseWalk::entry_more, crate::proofs::PhraseWalk::entry_fits))]
     fn entry_end(&mut self, group: Group, words: &[u8]) -> Option<usize>
         ensures value { result ≡ entry_end group words.now self.old.rest.now }
@@ -102,8 +124,12 @@ fn find_in(entries: &[Entry], rest: &[u8]) -> Option<(Group, usize)>
     ensures { result ≡ find_entry (listed entries.now) rest.now }
 {
     let mut gaps = Gaps::none(rest);
+    let second = second_capital(rest);
     for entry in entries {
         let Entry(group, words) = *entry;
+        if second_differs(second, words.as_bytes()) {
+            continue;
+        }
         if let Some(len) = gaps.entry_end(group, words.as_bytes()) {
             return Some((group, len));
         }
