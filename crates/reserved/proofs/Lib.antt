@@ -5,6 +5,7 @@ pub mod NoGap
 pub mod Lengths
 pub mod FirstEntry
 pub mod OtherLengths
+pub mod FirstWord
 pub mod FirstLetter
 pub mod LoneDollar
 pub mod EntryTokens

@@ -72,7 +72,7 @@ all_alike : all_below alike 128 ≡ true
 unfolding alike is_ascii_word is_letter within capital
 all_alike = refl
 
-capital_word : (b : ℕ) → is_ascii_word (capital b) ≡ is_ascii_word b
+pub capital_word : (b : ℕ) → is_ascii_word (capital b) ≡ is_ascii_word b
 unfolding alike
 capital_word b = go (ltb b 128) refl
   where
@@ -86,7 +86,7 @@ capital_word b = go (ltb b 128) refl
     go true q = same _ _ (below alike 128 all_alike b (ltb-true b 128 q))
     go false q = ap is_ascii_word (as_it_is b (ltb-false b 128 q))
 
-no_space : (p : ℕ) → is_ascii_word p ≡ true → eqb p 32 ≡ false
+pub no_space : (p : ℕ) → is_ascii_word p ≡ true → eqb p 32 ≡ false
 unfolding is_ascii_word is_letter within
 no_space p w = go (eqb p 32) refl
   where
@@ -146,7 +146,7 @@ module _ (then : Taker) (stops : (b : ℕ) (s : List ℕ) → is_ascii_word b �
       go false q l = absurd (l refl)
   walk_length (p ∷ words) (b ∷ s) n = walk_here p words b s (is_ascii_word p) (is_ascii_word b) refl refl (walk_length words s) n
 
-entry_unlike : (group : Group) (words s : List ℕ) → (count is_ascii_word words ≡ word_length s → ⊥) → entry_end group words s ≡ None
+pub entry_unlike : (group : Group) (words s : List ℕ) → (count is_ascii_word words ≡ word_length s → ⊥) → entry_end group words s ≡ None
 unfolding entry_end word_length
 entry_unlike group words s d = walk_length (ending group) (no_ending group) words s d
 

@@ -208,26 +208,6 @@ ending_inside Join = end_of_word_inside
 ending_inside NoIndent = end_of_word_inside
 ending_inside Plain = end_of_word_inside
 
-pub entry_no : (group : Group) (words s : List ℕ) (t : Option ℕ) → t ≡ None → None ≡ walk words done s → t ≡ entry_end group words s
-unfolding entry_end
-entry_no group words s t q e = q ∙ sym (walk_and words (ending group) s ∙ rw (← e))
-
--- in the rest as it is behind a call
-module _ (group : Group) (words s : List ℕ) (n : ℕ) (e : Some n ≡ walk words done s) (r : List ℕ) (k : r ≡ s) where
-  entry_is : entry_end group words s ≡ more n (ending group (drop n r))
-  unfolding entry_end
-  entry_is = walk_and words (ending group) s ∙ rw (← e, k)
-
-  module _ (u : Option ℕ) (h : u ≡ ending group (drop n r)) where
-    pub entry_more : (t : Option ℕ) → t ≡ more n u → t ≡ entry_end group words s
-    entry_more t q = q ∙ sym (rw (entry_is, ← h))
-
-    pub entry_fits : length s < 2 ^ 64 → n + taken u < 2 ^ 64
-    entry_fits l =
-        let i = words_inside words s n e in
-        let j : taken u ≤ length (drop n r) = rw h (ending_inside group (drop n r)) in
-        omega (arith, length-drop n r, ap length k)
-
 -- ---- words of two letters or more do not stand where the second letter is another
 
 second_other : (group : Group) (v w : ℕ) (words s : List ℕ) → (v ≡ 32 → ⊥) → (w ≡ 32 → ⊥) → (w ≡ capital (get_or s 1 0) → ⊥) → None ≡ entry_end group (v ∷ w ∷ words) s

@@ -1,6 +1,7 @@
 // A phrase at the start of a rest, and the first of the phrases.
 ghost use Rattle.std.specs.Prelude.{◌≡◌, ℕ, List, [], ◌∷◌, true, false, None, ◌≤◌, eqb, length, drop, get_or};
 ghost use Rattle.recognisers.specs.Taking.{done, capital};
+ghost use Rattle.recognisers.specs.Inner.WordLength.{word_length};
 ghost use Rattle.reserved.specs.declared.entries.Group.{Group};
 ghost use Rattle.reserved.specs.Phrases.{walk};
 ghost use Rattle.reserved.specs.Inner.Entries.{listed, entries, entries_of, entries_long, if_exists, ending, entry_end, find_entry};
@@ -8,7 +9,7 @@ ghost use Rattle.reserved.specs.Inner.Entries.{listed, entries, entries_of, entr
 use crate::entries::{Entry, Group};
 use crate::gaps::Gaps;
 use crate::phrases::lengths_of;
-use recognisers::{WordAhead, end_of_word, n_more};
+use recognisers::{WordAhead, behind_caseless, end_of_word, n_more};
 
 // A letter of a phrase at the start of a rest, in either case.
 #[inline(always)]
@@ -107,30 +108,35 @@ impl Gaps<'_> {
         end_of_word(&self.rest[from..])
     }
 
-    #[tactic(auto, using(crate::proofs::PhraseWalk::words_inside, crate::proofs::PhraseWalk::entry_no, crate::proofs::PhraseWalk::entry_more, crate::proofs::PhraseWalk::entry_fits))]
-    fn entry_end(&mut self, group: Group, words: &[u8]) -> Option<usize>
+    // An entry's first word is the word at the start, which has n bytes, or the entry does not stand here.
+    #[inline(always)]
+    #[tactic(auto, using(crate::proofs::FirstWord::entry_short, crate::proofs::FirstWord::entry_other, crate::proofs::FirstWord::first_inside, crate::proofs::FirstWord::words_in, crate::proofs::FirstWord::entry_no, crate::proofs::FirstWord::entry_more, crate::proofs::FirstWord::entry_fits))]
+    fn entry_end(&mut self, group: Group, n: usize, words: &[u8]) -> Option<usize>
+        requires { n ≡ word_length self.old.rest.now }
         ensures value { result ≡ entry_end group words.now self.old.rest.now }
         ensures rest { self.new.rest ≡ self.old.rest }
     {
-        let n = self.words_end(0, words)?;
-        n_more(n, self.ending(group, n))
+        let (first, more) = words.split_at_checked(n)?;
+        behind_caseless(self.rest, first)?;
+        let end = n + self.words_end(n, more)?;
+        n_more(end, self.ending(group, end))
     }
 }
 
 // The first of the entries that stands at the start of the rest: its group and how many bytes it takes.
 #[inline(always)]
 #[tactic(auto, using(crate::proofs::FirstEntry::found_here, crate::proofs::FirstEntry::found_later, crate::proofs::FirstEntry::found_nowhere))]
-fn find_in(entries: &[Entry], rest: &[u8]) -> Option<(Group, usize)>
-    ensures { result ≡ find_entry (listed entries.now) rest.now }
+fn find_in(entries: &[Entry], word: WordAhead<'_>) -> Option<(Group, usize)>
+    ensures { result ≡ find_entry (listed entries.now) word.entry.rest.now }
 {
-    let mut gaps = Gaps::none(rest);
-    let second = second_capital(rest);
+    let mut gaps = Gaps::none(word.rest);
+    let second = second_capital(word.rest);
     for entry in entries {
         let Entry(group, words) = *entry;
         if second_differs(second, words.as_bytes()) {
             continue;
         }
-        if let Some(len) = gaps.entry_end(group, words.as_bytes()) {
+        if let Some(len) = gaps.entry_end(group, word.len, words.as_bytes()) {
             return Some((group, len));
         }
     }
@@ -154,7 +160,6 @@ fn entries_of(letter: u8, n: usize) -> &'static [Entry]
 pub fn find_phrase(word: WordAhead<'_>) -> Option<(Group, usize)>
     ensures { result ≡ find_entry entries word.entry.rest.now }
 {
-    let rest = word.rest;
-    let letter = rest.first()?.to_ascii_uppercase();
-    find_in(entries_of(letter, word.len), rest)
+    let letter = word.rest.first()?.to_ascii_uppercase();
+    find_in(entries_of(letter, word.len), word)
 }
