@@ -6,6 +6,7 @@ use native.Mathlib.Omega.{arith}
 use mathlib.Core.Path.{◌≡◌, refl, sym, ap, ◌∙◌}
 use mathlib.Core.List.{List, [], ◌∷◌}
 use mathlib.Core.Bool.{Bool, true, false, cond, beq, false≢true, true≢false, and-eq-true_iff}
+use lib.ListN.{length}
 use lib.Dec.{ltb, eqb}
 use borrow.Author.Tests.{ltb-true, ltb-false, eqb-true, eqb-false}
 use Rattle.characters.specs.Ranges.{within}
@@ -20,9 +21,10 @@ use Rattle.characters.proofs.Within.{above_not}
 use Rattle.recognisers.specs.Inner.WordLength.{word_length}
 use Rattle.recognisers.specs.Taking.{Taker, more, one, capital, blanks, end_of_word, count}
 use Rattle.reserved.specs.Phrases.{walk, optional}
+use Rattle.reserved.specs.declared.entries.Entry.{Entry}
 use Rattle.reserved.specs.declared.entries.Group.{Group}
 use Rattle.reserved.specs.declared.entries.Group.TheVariants.{TopLevel, Dropped, NewlineAfter, Newline, Join, NoIndent, Plain}
-use Rattle.reserved.specs.Inner.Entries.{entries, if_exists, ending, entry_end, chosen, find_entry, entries_of, entries_long}
+use Rattle.reserved.specs.Inner.Entries.{entries, if_exists, ending, entry_end, chosen, find_entry, listed, entries_of, entries_long}
 use Rattle.reserved.proofs.FirstEntry.{letter_is}
 
 -- ---- an ASCII word character at the start of the text
@@ -171,3 +173,10 @@ first_entry [] b x n f c e es g t h = absurd (let z : ⊥ = cc in z)
 first_entry (a ∷ s) b x n f c e es g t h =
     let k : b ≡ a = cc in
     h ∙ rw (g, e) (long_find (entries_of x entries) (a ∷ s)) ∙ letter_is (a ∷ s) x (rw k at c)
+
+-- no entry, no phrase
+pub no_entry : (s : List ℕ) (b x n : ℕ) → Some b ≡ slice_get s 0 → x ≡ capital b → n ≡ word_length s → (es : List Entry) → listed es ≡ entries_long n (entries_of x entries)
+    → length es ≡ 0 → None ≡ find_entry entries s
+unfolding find_entry listed
+no_entry s b x n f c e [] g z = first_entry s b x n f c e [] g None refl
+no_entry s b x n f c e (y ∷ es) g z = absurd (let z : ⊥ = omega arith in z)

@@ -124,7 +124,6 @@ impl Gaps<'_> {
 }
 
 // The first of the entries that stands at the start of the rest: its group and how many bytes it takes.
-#[inline(always)]
 #[tactic(auto, using(crate::proofs::FirstEntry::found_here, crate::proofs::FirstEntry::found_later, crate::proofs::FirstEntry::found_nowhere))]
 fn find_in(entries: &[Entry], word: WordAhead<'_>) -> Option<(Group, usize)>
     ensures { result ≡ find_entry (listed entries.now) word.entry.rest.now }
@@ -155,11 +154,16 @@ fn entries_of(letter: u8, n: usize) -> &'static [Entry]
     }
 }
 
-// The first phrase that stands at the start of the rest.
-#[tactic(auto, using(crate::proofs::FirstEntry::no_text, crate::proofs::OtherLengths::first_entry, recognisers::proofs::LibraryWords::upper))]
+// The first phrase that stands at the start of the rest. Most words are of a letter and a length that no phrase has.
+#[inline(always)]
+#[tactic(auto, using(crate::proofs::FirstEntry::no_text, crate::proofs::OtherLengths::first_entry, crate::proofs::OtherLengths::no_entry, recognisers::proofs::LibraryWords::upper))]
 pub fn find_phrase(word: WordAhead<'_>) -> Option<(Group, usize)>
     ensures { result ≡ find_entry entries word.entry.rest.now }
 {
     let letter = word.rest.first()?.to_ascii_uppercase();
-    find_in(entries_of(letter, word.len), word)
+    let entries = entries_of(letter, word.len);
+    if entries.is_empty() {
+        return None;
+    }
+    find_in(entries, word)
 }
