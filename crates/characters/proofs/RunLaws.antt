@@ -165,6 +165,10 @@ pub ascii_code : (s : List ℕ) (i : ℕ) → i < length s → get_or s i 0 < 12
 unfolding code_point continuations continued first_bits with_bits
 ascii_code s i h l = rw (drop-cons s i 0 h, lt-ltb (get_or s i 0) 0xC0 (omega arith), lt-ltb (get_or s i 0) 0x80 l)
 
+pub ascii_character : (s : List ℕ) (i : ℕ) → i < length s → get_or s i 0 < 128 → ◌≡◌ {A = Character} (record { code_point = get_or s i 0; len = 1 }) (character (drop i s))
+unfolding character
+ascii_character s i h l = rw (ascii_code s i h l, ascii_length s i h l)
+
 pub ascii_first : (b : ℕ) (s : List ℕ) → b < 128 → code_point (b ∷ s) ≡ b
 ascii_first b s l = ascii_code (b ∷ s) 0 (suc-le-suc zero-le) l
 

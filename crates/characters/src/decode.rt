@@ -65,8 +65,9 @@ fn first_character(bytes: &[u8]) -> Character
     }
 }
 
-// The character at a place of a text; past the text's end it has no bytes.
-#[tactic(auto, using(crate::proofs::Decoding::decode_past))]
+// The character at a place of a text; past the text's end it has no bytes. Most are ASCII, and are told without a call.
+#[inline(always)]
+#[tactic(auto, using(crate::proofs::RunLaws::ascii_character, crate::proofs::Decoding::decode_past))]
 pub fn character_at(text: &[u8], at: usize) -> Character
     ensures { result ≡ character (drop at text.now) }
 {
@@ -74,6 +75,13 @@ pub fn character_at(text: &[u8], at: usize) -> Character
         return Character {
             code_point: 0,
             len: 0,
+        };
+    }
+    let b = text[at];
+    if b < 128 {
+        return Character {
+            code_point: u32::from(b),
+            len: 1,
         };
     }
     first_character(&text[at..])
