@@ -1,6 +1,6 @@
 // What is remembered of a token.
 ghost use Rattle.std.specs.Prelude.{◌≡◌, ◌≤◌, length, take};
-ghost use Rattle.tokenizer.specs.Memory.{takes_type_specifier, top_level_of, after_between, last_top_level, remember, remembered};
+ghost use Rattle.tokenizer.specs.Memory.{takes_type_specifier, top_level_of, after_between, last_top_level, remember};
 
 use crate::Memory;
 use recognisers::TokenKind;
@@ -78,7 +78,7 @@ impl<'a> ReadToken<'a> {
 
 #[inline(always)]
 #[tactic(auto, unfolding(crate::specs::Memory::remember), using(recognisers::proofs::LibraryWords::equal))]
-fn remember_token(memory: Memory, token: ReadToken<'_>) -> Memory
+pub fn remember_token(memory: Memory, token: ReadToken<'_>) -> Memory
     ensures { result ≡ remember memory token.entry.kind token.entry.value.now token.entry.alias }
 {
     Memory {
@@ -87,16 +87,4 @@ fn remember_token(memory: Memory, token: ReadToken<'_>) -> Memory
         after_between: token.after_between(memory.after_between),
         top_level: token.last_top_level(memory.top_level),
     }
-}
-
-// Whitespace is passed over.
-#[inline(always)]
-#[tactic(auto, unfolding(crate::specs::Memory::remembered))]
-pub fn remember_piece(memory: Memory, token: ReadToken<'_>) -> Memory
-    ensures { result ≡ remembered memory token.entry.kind token.entry.value.now token.entry.alias }
-{
-    if token.kind == TokenKind::Whitespace {
-        return memory;
-    }
-    remember_token(memory, token)
 }

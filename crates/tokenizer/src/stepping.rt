@@ -7,7 +7,7 @@ ghost use Rattle.tokenizer.specs.NextToken.{next_piece};
 ghost use Rattle.tokenizer.specs.Tokens.{given_out, placed, step_at};
 
 use crate::choice::next_piece;
-use crate::remembering::{ReadToken, remember_piece};
+use crate::remembering::{ReadToken, remember_token};
 use crate::{Cursor, Memory, Token};
 use calls::Settings;
 use recognisers::{Dialect, Hints, Key, Piece, Rest, TokenKind, learn_opener};
@@ -95,7 +95,7 @@ fn piece_at(
     next_piece(rest, settings.named, memory)
 }
 
-// What is known of the statement's end goes along, and grows where an opener opened nothing.
+// What is known of the statement's end goes along, and grows where an opener opened nothing. Gaps are not remembered.
 #[inline(always)]
 pub fn next_step(
     statement: &[u8],
@@ -125,14 +125,18 @@ pub fn next_step(
         key: place_key(at, key),
         escaped: piece.escaped,
     };
+    let past = at + len;
+    if kind == TokenKind::Whitespace {
+        return Some((token, Cursor { at: past, memory }));
+    }
     learn(statement, at, kind, settings.dialect, hints);
     let rest = &statement[at..];
     let value = &rest[..len];
-    let next = remember_piece(memory, ReadToken { kind, value, alias });
+    let next = remember_token(memory, ReadToken { kind, value, alias });
     Some((
         token,
         Cursor {
-            at: at + len,
+            at: past,
             memory: next,
         },
     ))

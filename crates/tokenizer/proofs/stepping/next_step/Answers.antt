@@ -1,5 +1,6 @@
 use Rattle.std.proofs.Common.{rules}
 use Rattle.characters.proofs.Rests.{part_end}
+use Rattle.tokenizer.specs.Memory.{remembered}
 use Rattle.tokenizer.proofs.NextPieceSizes.{cut_length, cut_alias, key_fits, len_fits, step_token, step_past, step_nothing}
 use Rattle.tokenizer.proofs.stepping.next_step.Goals as goal
 
@@ -15,11 +16,16 @@ place_key-requires c = key_fits _ _ c.args.cursor _ _ c.piece_at.ensures c.in_ok
 pub slice_bounds-value-end : goal.slice_bounds-value-end
 slice_bounds-value-end c = cut_length _ _ c.args.cursor _ _ c.piece_at.ensures c.in_ok-piece.was _ (part_end c.args.statement.now c.args.cursor.at)
 
-pub invariant_of-remember_piece : goal.invariant_of-remember_piece
-invariant_of-remember_piece c = record { alias_inside = cut_alias _ _ c.args.cursor _ _ c.piece_at.ensures c.in_ok-piece.was _ (part_end c.args.statement.now c.args.cursor.at) }
+pub invariant_of-remember_token : goal.invariant_of-remember_token
+invariant_of-remember_token c = record { alias_inside = cut_alias _ _ c.args.cursor _ _ c.piece_at.ensures c.in_ok-piece.was _ (part_end c.args.statement.now c.args.cursor.at) }
 
-pub overflow_add-result : goal.overflow_add-result
-overflow_add-result c = len_fits _ _ c.args.cursor _ _ c.piece_at.ensures c.in_ok-piece.was (search rules) (search rules)
+pub overflow_add-past : goal.overflow_add-past
+overflow_add-past c = len_fits _ _ c.args.cursor _ _ c.piece_at.ensures c.in_ok-piece.was (search rules) (search rules)
+
+pub returns-then-eq-clause-value : goal.returns-then-eq-clause-value
+unfolding remembered
+returns-then-eq-clause-value c = step_token _ _ c.args.cursor _ _ c.piece_at.ensures c.in_ok-piece.was _ _ _ _ (part_end c.args.statement.now c.args.cursor.at) (search rules) c.given_out.ensures c.place_key.ensures (search rules)
 
 pub returns-clause-value : goal.returns-clause-value
-returns-clause-value c = step_token _ _ c.args.cursor _ _ c.piece_at.ensures c.in_ok-piece.was _ _ _ _ (part_end c.args.statement.now c.args.cursor.at) (search rules) c.given_out.ensures c.place_key.ensures c.remember_piece-next.ensures
+unfolding remembered
+returns-clause-value c = step_token _ _ c.args.cursor _ _ c.piece_at.ensures c.in_ok-piece.was _ _ _ _ (part_end c.args.statement.now c.args.cursor.at) (search rules) c.given_out.ensures c.place_key.ensures (search rules)
