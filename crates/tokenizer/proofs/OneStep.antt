@@ -2,36 +2,37 @@
 -- Assumes nothing.
 use Prim.Native.Nat.{ℕ, ◌+◌, ◌^◌, ◌<◌}
 use native.Mathlib.Omega.{arith}
-use mathlib.Core.Path.{◌≡◌, sym, ap, ◌∙◌}
-use mathlib.Core.List.{List, [], ◌∷◌}
+use mathlib.Core.Path.{◌≡◌, ap}
+use mathlib.Core.List.{List}
 use lib.ListN.{length}
 use Rattle.std.specs.Prelude.{Option, Some, None}
+use Rattle.std.specs.Iterator.{YieldsFirst, MakesProgress, item_count}
 use Rattle.recognisers.specs.declared.hints.Hints.{Hints}
 use Rattle.recognisers.specs.Inner.Known.{Truthful}
 use Rattle.calls.specs.declared.Settings.{Settings}
 use Rattle.tokenizer.specs.declared.Cursor.{Cursor}
 use Rattle.tokenizer.specs.declared.Token.{Token}
 use Rattle.tokenizer.specs.declared.walking.Tokens.{Tokens}
-use Rattle.tokenizer.specs.Tokens.{step_at, tokens}
+use Rattle.tokenizer.specs.Tokens.{tokens}
 use Rattle.tokenizer.specs.Left.{tokens_left}
+use Rattle.tokenizer.specs.Inner.Stepping.{Stepped}
 use Rattle.tokenizer.proofs.EndToEnd.{tokens_short}
 use Rattle.tokenizer.proofs.Steps.{step_moves, step_ends}
 
-module _ (it : Tokens) (r : Option (Token × Cursor)) (e : r ≡ step_at it.settings it.statement.now it.cursor) where
-  pub step_none : r ≡ None → tokens_left it ≡ []
+module _ (it : Tokens) (c : Cursor) (hints : Hints) (known : Truthful hints it.statement.now) where
+  abbrev past : Tokens
+  past = record { statement = it.statement; settings = it.settings; cursor = c; hints = hints; known = known }
+
+  pub one_less : (r : Option Token) → Stepped it.settings it.statement.now it.cursor r c → YieldsFirst tokens_left it r past
   unfolding tokens_left
-  step_none f = step_ends it.settings it.statement.now it.cursor (sym e ∙ f)
+  one_less (Some t) e = (step_moves it.settings it.statement.now it.cursor t c e).list
+  one_less None e =
+      let none = step_ends it.settings it.statement.now it.cursor e.0 in
+      (none, rw e.1 none)
 
-  module _ (t : Token) (c : Cursor) (f : r ≡ Some (t, c)) (hints : Hints) (known : Truthful hints it.statement.now) where
-    abbrev past : Tokens
-    past = record { statement = it.statement; settings = it.settings; cursor = c; hints = hints; known = known }
-
-    pub one_taken : tokens_left it ≡ t ∷ tokens_left past
-    unfolding tokens_left
-    one_taken = (step_moves it.settings it.statement.now it.cursor t c (sym e ∙ f)).list
-
-    pub fewer_left : length (tokens_left past) < length (tokens_left it)
-    fewer_left = rw one_taken (omega arith)
+  pub goes_on : (r : Option Token) → YieldsFirst tokens_left it r past → MakesProgress (λ _. Unit {0}) (item_count tokens_left) it r past
+  goes_on (Some t) e = record { on = λ h. (tt, tt, rw e (omega arith)); keeps = tt; rests = λ h. tt }
+  goes_on None e = record { on = λ h. tt; keeps = tt; rests = λ h. tt }
 
 pub left_fits : (settings : Settings) (s : List ℕ) (it : Tokens) → tokens_left it ≡ tokens settings s → length s < 2 ^ 64 → 0 + length (tokens_left it) < 2 ^ 64
 left_fits settings s it e h = let k = tokens_short settings s in omega (arith, ap length e)

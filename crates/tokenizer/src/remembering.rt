@@ -76,15 +76,16 @@ impl<'a> ReadToken<'a> {
     }
 }
 
-#[inline(always)]
-#[tactic(auto, unfolding(crate::specs::Memory::remember), using(recognisers::proofs::LibraryWords::equal))]
-pub fn remember_token(memory: Memory, token: ReadToken<'_>) -> Memory
-    ensures { result ≡ remember memory token.entry.kind token.entry.value.now token.entry.alias }
-{
-    Memory {
-        type_specifier: takes_type_specifier(token.kind),
-        after_dot: token.value == b".".as_slice(),
-        after_between: token.after_between(memory.after_between),
-        top_level: token.last_top_level(memory.top_level),
+impl Memory {
+    // One field after the other, in place: a memory that is handed back whole is packed into a word and taken apart for each token.
+    #[inline(always)]
+    #[tactic(auto, unfolding(crate::specs::Memory::remember), using(recognisers::proofs::LibraryWords::equal))]
+    pub fn remember(&mut self, token: ReadToken<'_>)
+        ensures { self.new ≡ remember self.old token.entry.kind token.entry.value.now token.entry.alias }
+    {
+        self.type_specifier = takes_type_specifier(token.kind);
+        self.after_dot = token.value == b".".as_slice();
+        self.after_between = token.after_between(self.after_between);
+        self.top_level = token.last_top_level(self.top_level);
     }
 }

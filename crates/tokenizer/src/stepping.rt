@@ -4,10 +4,11 @@ ghost use Rattle.recognisers.specs.Inner.KeyStart.{key_start};
 ghost use Rattle.recognisers.specs.Inner.Known.{Truthful};
 ghost use Rattle.tokenizer.specs.Memory.{start};
 ghost use Rattle.tokenizer.specs.NextToken.{next_piece};
-ghost use Rattle.tokenizer.specs.Tokens.{given_out, placed, step_at};
+ghost use Rattle.tokenizer.specs.Tokens.{given_out, placed};
+ghost use Rattle.tokenizer.specs.Inner.Stepping.{Stepped};
 
 use crate::choice::next_piece;
-use crate::remembering::{ReadToken, remember_token};
+use crate::remembering::ReadToken;
 use crate::{Cursor, Memory, Token};
 use calls::Settings;
 use recognisers::{Dialect, Hints, Key, Piece, Rest, TokenKind, learn_opener};
@@ -100,19 +101,18 @@ fn piece_at(
 pub fn next_step(
     statement: &[u8],
     settings: Settings,
-    cursor: Cursor,
+    cursor: &mut Cursor,
     hints: &mut Hints,
-) -> Option<(Token, Cursor)>
+) -> Option<Token>
     requires { Truthful hints.old statement.now }
-    ensures value { result ≡ step_at settings statement.now cursor }
+    ensures stepped { Stepped settings statement.now cursor.old result cursor.new }
     ensures truthful { Truthful hints.new statement.now }
 {
     let at = cursor.at;
     if statement.len() <= at {
         return None;
     }
-    let memory = cursor.memory;
-    let piece = piece_at(statement, at, settings, memory, hints)?;
+    let piece = piece_at(statement, at, settings, cursor.memory, hints)?;
     let kind = piece.kind;
     let len = piece.len;
     let alias = piece.alias;
@@ -125,19 +125,13 @@ pub fn next_step(
         key: place_key(at, key),
         escaped: piece.escaped,
     };
-    let past = at + len;
+    cursor.at = at + len;
     if kind == TokenKind::Whitespace {
-        return Some((token, Cursor { at: past, memory }));
+        return Some(token);
     }
     learn(statement, at, kind, settings.dialect, hints);
     let rest = &statement[at..];
     let value = &rest[..len];
-    let next = remember_token(memory, ReadToken { kind, value, alias });
-    Some((
-        token,
-        Cursor {
-            at: past,
-            memory: next,
-        },
-    ))
+    cursor.memory.remember(ReadToken { kind, value, alias });
+    Some(token)
 }

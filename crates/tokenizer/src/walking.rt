@@ -46,8 +46,11 @@ impl<'a> Iterator for Tokens<'a> {
 
     #[inline(always)]
     fn next(&mut self) -> Option<Token> {
-        let (token, next) = next_step(self.statement, self.settings, self.cursor, &mut self.hints)?;
-        self.cursor = next;
-        Some(token)
+        next_step(
+            self.statement,
+            self.settings,
+            &mut self.cursor,
+            &mut self.hints,
+        )
     }
 }

@@ -1,12 +1,8 @@
-use Rattle.std.proofs.Common.{rules}
-use Rattle.tokenizer.proofs.OneStep.{step_none, one_taken, fewer_left}
+use Rattle.tokenizer.proofs.OneStep.{one_less, goes_on}
 use Rattle.tokenizer.proofs.walking.TokensIterator.next.Goals as goal
 
-pub returns-in_err-token-clause-steps : goal.returns-in_err-token-clause-steps
-returns-in_err-token-clause-steps c = search (rules, step_none)
-
 pub returns-clause-steps : goal.returns-clause-steps
-returns-clause-steps c = search (one_taken, c.in_ok-token.was)
+returns-clause-steps c = one_less c.args.self.now _ _ _ _ c.next_step.ensures.stepped
 
 pub returns-clause-goes : goal.returns-clause-goes
-returns-clause-goes c = record { on = λ h. (tt, tt, search (fewer_left, c.in_ok-token.was)); keeps = tt; rests = λ h. tt }
+returns-clause-goes c = goes_on c.args.self.now _ _ _ _ (one_less c.args.self.now _ _ _ _ c.next_step.ensures.stepped)
