@@ -17,8 +17,8 @@ use reserved::get_reserved_word_token;
 // The rest of the choice from the reserved words on: what is known of the word at the start is found once.
 #[inline(always)]
 #[tactic(auto, unfolding(crate::specs::NextToken::from_word, crate::specs::NextToken::from_placeholder, crate::specs::NextToken::from_operator, crate::specs::NextToken::from_reserved))]
-fn from_reserved(rest: Rest<'_>, named: bool, memory: Memory) -> Option<Piece>
-    ensures { result ≡ from_reserved (choosing rest.entry.dialect named) memory rest.entry.text.now }
+fn from_reserved(rest: Rest<'_>, named: bool, memory: &Memory) -> Option<Piece>
+    ensures { result ≡ from_reserved (choosing rest.entry.dialect named) memory.now rest.entry.text.now }
 {
     let last = memory.top_level;
     let word = WordAhead::of(rest.text);
@@ -44,8 +44,8 @@ fn from_reserved(rest: Rest<'_>, named: bool, memory: Memory) -> Option<Piece>
 
 #[inline(always)]
 #[tactic(auto, unfolding(crate::specs::NextToken::from_number, crate::specs::NextToken::from_close_paren, crate::specs::NextToken::from_open_paren, crate::specs::NextToken::from_string, crate::specs::NextToken::from_type_specifier, crate::specs::NextToken::get_next_token))]
-fn get_next_token(rest: Rest<'_>, named: bool, memory: Memory) -> Option<Piece>
-    ensures { result ≡ get_next_token (choosing rest.entry.dialect named) memory rest.entry.text.now }
+fn get_next_token(rest: Rest<'_>, named: bool, memory: &Memory) -> Option<Piece>
+    ensures { result ≡ get_next_token (choosing rest.entry.dialect named) memory.now rest.entry.text.now }
 {
     if let Some(piece) = get_comment_token(rest) {
         return Some(piece);
@@ -71,8 +71,8 @@ fn get_next_token(rest: Rest<'_>, named: bool, memory: Memory) -> Option<Piece>
 // Whitespace is taken first.
 #[inline(always)]
 #[tactic(auto, unfolding(crate::specs::NextToken::next_piece))]
-pub fn next_piece(rest: Rest<'_>, named: bool, memory: Memory) -> Option<Piece>
-    ensures { result ≡ next_piece (choosing rest.entry.dialect named) memory rest.entry.text.now }
+pub fn next_piece(rest: Rest<'_>, named: bool, memory: &Memory) -> Option<Piece>
+    ensures { result ≡ next_piece (choosing rest.entry.dialect named) memory.now rest.entry.text.now }
 {
     if let Some(piece) = get_whitespace_token(rest.text) {
         return Some(piece);

@@ -81,12 +81,12 @@ fn piece_at(
     statement: &[u8],
     at: usize,
     settings: Settings,
-    memory: Memory,
+    memory: &Memory,
     hints: &Hints,
 ) -> Option<Piece>
     requires at_in_bounds { at ≤ length statement.now }
     requires truthful { Truthful hints.now statement.now }
-    ensures { result ≡ next_piece settings memory (drop at statement.now) }
+    ensures { result ≡ next_piece settings memory.now (drop at statement.now) }
 {
     let rest = Rest {
         text: &statement[at..],
@@ -112,7 +112,7 @@ pub fn next_step(
     if statement.len() <= at {
         return None;
     }
-    let piece = piece_at(statement, at, settings, cursor.memory, hints)?;
+    let piece = piece_at(statement, at, settings, &cursor.memory, hints)?;
     let kind = piece.kind;
     let len = piece.len;
     let alias = piece.alias;

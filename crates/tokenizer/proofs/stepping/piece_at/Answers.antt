@@ -7,4 +7,4 @@ pub invariant_of-rest : goal.invariant_of-rest
 invariant_of-rest c = record { truthful = truthful_part _ _ _ c.requires.truthful }
 
 pub returns : goal.returns
-returns c = chosen c.args.settings _ c.args.memory c.args.statement.now _ c.args.at _ refl refl c.next_piece.ensures
+returns c = chosen c.args.settings _ c.args.memory.now c.args.statement.now _ c.args.at _ refl refl c.next_piece.ensures
