@@ -2,11 +2,12 @@
 -- Assumes nothing.
 use Rattle.std.proofs.Common.{Option, Some, None, slice_get}
 use Prim.Native.Nat.{ℕ, ◌+◌, ◌-◌, ◌≤◌, ◌<◌, min}
+use native.Mathlib.Nat.{le_of_suc-le-suc, not-suc-le-zero}
 use native.Mathlib.Omega.{arith}
 use mathlib.Core.Path.{◌≡◌, refl, sym, ap, ◌∙◌}
 use mathlib.Core.List.{List, [], ◌∷◌}
 use mathlib.Core.Bool.{Bool, true, false, cond, not, ◌||◌, false≢true}
-use lib.ListN.{drop}
+use lib.ListN.{length, drop, get_or}
 use lib.Dec.{leb, ltb, eqb}
 use borrow.Author.Tests.{ltb-true, ltb-false, eqb-true}
 use Rattle.characters.specs.Ranges.{within, in_ranges}
@@ -405,14 +406,21 @@ module _ (k : ℕ) (t : Option ℕ) (r : Option Piece) (s : List ℕ) (e : start
     pub close_other : (k ≡ 41 → ⊥) → (k ≡ 93 → ⊥) → t ≡ or (caseless (bytes "END") (blanks (caseless (bytes "CASE") end_of_word)) s) (caseless (bytes "END") end_of_word s) → r ≡ token_of CloseParen t → r ≡ get_close_paren_token dialect s
     close_other n m f g = g ∙ (ap (token_of CloseParen) f ∙ close_left dialect s (first_not k s 41 e n) (first_not k s 93 e m))
 
--- ---- a run of operators needs one
+-- ---- a run of operators needs two
+
+abbrev operator_run : List ℕ → Option Piece
+operator_run s = token_of Operator (at_least 2 (min (count is_operator s) 5))
+
+none_taken : (t : Bool) → None ≡ token_of Operator (at_least 2 (min (cond t 1 0) 5))
+none_taken true = refl
+none_taken false = refl
 
 module _ (s : List ℕ) where
   pub no_operator_text : None ≡ slice_get s 0 → None ≡ get_operator_token s
   unfolding get_operator_token count
   no_operator_text q = go s q
     where
-      go : (s : List ℕ) → None ≡ slice_get s 0 → None ≡ token_of Operator (at_least 2 (min (count is_operator s) 5))
+      go : (s : List ℕ) → None ≡ slice_get s 0 → None ≡ operator_run s
       go [] q = refl
       go (a ∷ s) q = absurd (let z : ⊥ = cc in z)
 
@@ -420,8 +428,26 @@ module _ (s : List ℕ) where
   unfolding get_operator_token count
   no_operator b q f = go s q
     where
-      go : (s : List ℕ) → Some b ≡ slice_get s 0 → None ≡ token_of Operator (at_least 2 (min (count is_operator s) 5))
+      go : (s : List ℕ) → Some b ≡ slice_get s 0 → None ≡ operator_run s
       go [] q = absurd (let z : ⊥ = cc in z)
       go (a ∷ s) q =
           let k : b ≡ a = cc in
           rw (← k, f) refl
+
+  pub one_byte : length s ≤ 1 → None ≡ get_operator_token s
+  unfolding get_operator_token count
+  one_byte l = go s l
+    where
+      go : (s : List ℕ) → length s ≤ 1 → None ≡ operator_run s
+      go [] l = refl
+      go (a ∷ []) l = none_taken (is_operator a)
+      go (a ∷ b ∷ s) l = absurd (not-suc-le-zero (le_of_suc-le-suc l))
+
+  pub lone_operator : (b : ℕ) → 1 < length s → b ≡ get_or s 1 0 → is_operator b ≡ false → None ≡ get_operator_token s
+  unfolding get_operator_token count
+  lone_operator b l e f = go s l e
+    where
+      go : (s : List ℕ) → 1 < length s → b ≡ get_or s 1 0 → None ≡ operator_run s
+      go [] l e = absurd (not-suc-le-zero l)
+      go (a ∷ []) l e = absurd (not-suc-le-zero (le_of_suc-le-suc l))
+      go (a ∷ c ∷ s) l e = rw (← e, f) (none_taken (is_operator a))

@@ -46,15 +46,18 @@ fn few_operators(rest: &[u8]) -> usize
     count_operators(&rest[..rest.len().min(5)])
 }
 
-// A run is counted only where one begins.
+// A run takes two at least, and is counted only where two begin it.
 #[inline(always)]
 pub fn get_operator_token(rest: &[u8]) -> Option<Piece>
     ensures { result ≡ get_operator_token rest.now }
 {
-    if is_operator(*rest.first()?) {
-        return token_of(TokenKind::Operator, at_least(2, few_operators(rest)));
+    if !is_operator(*rest.first()?) {
+        return None;
     }
-    None
+    if !is_operator(*rest.get(1)?) {
+        return None;
+    }
+    token_of(TokenKind::Operator, at_least(2, few_operators(rest)))
 }
 
 // The end of the word.
