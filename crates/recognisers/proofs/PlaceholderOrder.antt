@@ -17,10 +17,11 @@ use Rattle.characters.proofs.RunLaws.{ascii_first}
 use Rattle.characters.proofs.Within.{within_high}
 use Rattle.recognisers.specs.declared.Dialect.{Dialect}
 use Rattle.recognisers.specs.declared.Piece.{Piece}
+use Rattle.recognisers.specs.Text.{bytes}
 use Rattle.recognisers.specs.Taking.{one, spelled, typed, is_digit, count, digit1, contains, starts_with}
 use Rattle.recognisers.specs.Pieces.{alt}
 use Rattle.recognisers.specs.Placeholder.{placeholder_name, indexed_taken, get_indexed_placeholder_token, ident_taken, get_ident_named_placeholder_token, braced_taken, get_braced_named_placeholder_token, string_named_taken, get_string_named_placeholder_token, get_placeholder_token}
-use Rattle.recognisers.proofs.FirstBytes.{alt_nothing}
+use Rattle.recognisers.proofs.FirstBytes.{alt_nothing, first_not}
 use Rattle.recognisers.proofs.OrderedChoice.{first_recognises, rest_recognises}
 
 -- ---- a digit may stand in a name
@@ -102,3 +103,26 @@ unfolding starts_with get_placeholder_token get_ident_named_placeholder_token ge
 braces_are named dialect [] k r e q f = absurd (false≢true e)
 braces_are true dialect (b ∷ s) k r e q f = f ∙ rw (eqb-true b k e ∙ q)
 braces_are false dialect (b ∷ s) k r e q f = f ∙ rw (eqb-true b k e ∙ q)
+
+-- behind `@` or `:` stands no index
+no_index : (s : List ℕ) → starts_with 63 s ≡ false → starts_with 36 s ≡ false → None ≡ get_indexed_placeholder_token s
+unfolding starts_with get_indexed_placeholder_token indexed_taken spelled one typed contains
+no_index [] m d = refl
+no_index (b ∷ s) m d = rw (m, d)
+
+pub names_alone : (named : Bool) (dialect : Dialect) (s : List ℕ) (k : ℕ) → starts_with k s ≡ true → contains (bytes "@:") k ≡ true
+    → (r : Option Piece) → r ≡ alt (get_ident_named_placeholder_token s) (get_string_named_placeholder_token dialect s) → r ≡ get_placeholder_token named dialect s
+unfolding contains
+names_alone named dialect s k e c r f =
+    let m = first_not k s 63 e (λ q. false≢true (rw q at c)) in
+    let d = first_not k s 36 e (λ q. false≢true (rw q at c)) in
+    let b = first_not k s 123 e (λ q. false≢true (rw q at c)) in
+    name_found named dialect s b None (go named (no_index s m d)) r refl f
+  where
+    go : (t : Bool) → None ≡ get_indexed_placeholder_token s → None ≡ cond (t && not (starts_with 63 s)) None (get_indexed_placeholder_token s)
+    go true i = both (not (starts_with 63 s)) i
+      where
+        both : (u : Bool) → None ≡ get_indexed_placeholder_token s → None ≡ cond u None (get_indexed_placeholder_token s)
+        both true i = refl
+        both false i = i
+    go false i = i

@@ -51,7 +51,6 @@ fn till_line_ending_known(rest: Rest<'_>) -> Option<usize>
     till_line_ending(rest.text)
 }
 
-#[inline(always)]
 fn line_comment(rest: Rest<'_>, mark: &[u8]) -> Option<usize>
     ensures { result ≡ literal mark.now till_line_ending rest.entry.text.now }
 {

@@ -12,7 +12,7 @@ ghost use Rattle.recognisers.specs.Placeholder.{number_of, indexed, indexed_key,
 use crate::escaped_quotes::string_named_pairs;
 use crate::numbers::marked_digits;
 use crate::rest::Rest;
-use crate::scan::{at_least, behind_mark, exactly, first_among, stands_at, starts_among};
+use crate::scan::{at_least, behind_mark, exactly, first_among, is_among, stands_at, starts_among};
 use crate::strings::placeholder_string_taken;
 use crate::{Key, Piece, TokenKind};
 use characters::Class;
@@ -216,6 +216,9 @@ fn placeholder(first: u8, rest: Rest<'_>, named: bool) -> Option<Piece>
 {
     if first == b'{' {
         return get_braced_named_placeholder_token(rest);
+    }
+    if is_among(b"@:", first) {
+        return name_or_string(rest);
     }
     if let Some(piece) = index_before_name(rest.text, named) {
         return Some(piece);
