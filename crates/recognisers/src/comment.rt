@@ -51,6 +51,7 @@ fn till_line_ending_known(rest: Rest<'_>) -> Option<usize>
     till_line_ending(rest.text)
 }
 
+// By a call: in it twice, the step would be too large to be compiled into the loops.
 fn line_comment(rest: Rest<'_>, mark: &[u8]) -> Option<usize>
     ensures { result ≡ literal mark.now till_line_ending rest.entry.text.now }
 {

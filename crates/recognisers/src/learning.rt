@@ -121,7 +121,7 @@ fn learn_by(text: &[u8], at: usize, dialect: Dialect, hints: &mut Hints)
     }
 }
 
-// Few operators are openers.
+// Few operators are openers, and for the others nothing is called.
 #[inline(always)]
 pub fn learn_opener(text: &[u8], at: usize, dialect: Dialect, hints: &mut Hints)
     requires at_in_bounds { at < length text.now }

