@@ -43,4 +43,5 @@ pub enum Refusal {
     Sheet,
     OutputFull(u64),
     PartsFull(u64),
+    PlaceNought(u64),
 }

@@ -8,7 +8,7 @@ use std::fmt;
 impl Refusal {
     pub fn number(self) -> u64
         ensures value { result ≡ refusal_number self }
-        ensures upper_bound { result < 8 }
+        ensures upper_bound { result < 9 }
     {
         match self {
             Refusal::Overlong(_) => 1,
@@ -18,6 +18,7 @@ impl Refusal {
             Refusal::Sheet => 5,
             Refusal::OutputFull(_) => 6,
             Refusal::PartsFull(_) => 7,
+            Refusal::PlaceNought(_) => 8,
         }
     }
 
@@ -30,7 +31,8 @@ impl Refusal {
             | Refusal::NotUtf8(n)
             | Refusal::TableFull(n)
             | Refusal::OutputFull(n)
-            | Refusal::PartsFull(n) => n,
+            | Refusal::PartsFull(n)
+            | Refusal::PlaceNought(n) => n,
         }
     }
 }

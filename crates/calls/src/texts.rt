@@ -6,7 +6,7 @@ use crate::Refusal;
 
 pub fn numbers_of(answer: Result<u64, Refusal>) -> (u64, u64)
     ensures number { result.0 ≡ text_number answer }
-    ensures number_bound { result.0 < 8 }
+    ensures number_bound { result.0 < 9 }
     ensures detail { result.1 ≡ text_detail answer }
 {
     match answer {

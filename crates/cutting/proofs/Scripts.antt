@@ -9,7 +9,7 @@ use borrow.Author.Tests.{le-ltb}
 use lib.ListN.{length, take, drop}
 use lib.Seq.{take-append_seam}
 use Rattle.calls.specs.declared.Refusal.{Refusal}
-use Rattle.calls.specs.declared.Refusal.TheVariants.{Overlong, NotUtf8, Setting, TableFull, Sheet, OutputFull, PartsFull}
+use Rattle.calls.specs.declared.Refusal.TheVariants.{Overlong, NotUtf8, Setting, TableFull, Sheet, OutputFull, PartsFull, PlaceNought}
 use Rattle.calls.specs.declared.Settings.{Settings}
 use Rattle.calls.specs.Checks.{checked, accepted_or, told_number}
 use Rattle.calls.specs.Refusals.{refusal_number}
@@ -32,6 +32,7 @@ refusal_some (TableFull n) = omega arith
 refusal_some Sheet = omega arith
 refusal_some (OutputFull n) = omega arith
 refusal_some (PartsFull n) = omega arith
+refusal_some (PlaceNought n) = omega arith
 
 cutter_is : settings_of 0 0 0 ≡ cutter_settings
 unfolding settings_of dialect_of
