@@ -4,7 +4,7 @@ use Rattle.std.proofs.lemmas.Bool.{cases_lt, lt-ltb, lt-leb}
 use Rattle.calls.specs.Checks.{checked, checked_text}
 use Rattle.calls.specs.Settings.{is_setting}
 use Rattle.console.specs.Printed.{call_printed}
-use Rattle.params.specs.Answers.{checked_with, with_sheet}
+use Rattle.params.specs.Answers.{checked_with, with_sheet, with_places, fill_checked}
 use Rattle.params.specs.Filled.{filled}
 use Rattle.params.specs.Sheet.{is_sheet, is_sheet_length}
 use Rattle.filling.specs.Input.{sheet_of, statement_of}
@@ -16,7 +16,7 @@ use Rattle.calls.specs.declared.Refusal.{Refusal}
 
 module _ (sheet : List ℕ) (room : ℕ) where
   overlong : (s front : List ℕ) → 65536 < length s → 65536 < length front → fill_printed front sheet room ≡ fill_printed s sheet room
-  unfolding checked_with checked checked_text call_printed is_setting
+  unfolding fill_checked checked_with checked checked_text call_printed is_setting
   overlong s front long more = rw (lt-ltb _ _ long, lt-ltb _ _ more)
 
   statement_by : (s : List ℕ) → (65536 < length s) ⊎ (length s ≤ 65536) → fill_printed (take 65537 s) sheet room ≡ fill_printed s sheet room
@@ -35,13 +35,14 @@ no_sheet sheet long = go (leb 3 (length sheet)) refl
 
 module _ (s : List ℕ) (room : ℕ) where
   without : (sheet front : List ℕ) (c : Result Settings Refusal) → is_sheet sheet ≡ false → is_sheet front ≡ false
-      → call_printed (λ settings. filled settings s front) room (with_sheet front c) ≡ call_printed (λ settings. filled settings s sheet) room (with_sheet sheet c)
+      → call_printed (λ settings. filled settings s front) room (with_places s front (with_sheet front c))
+      ≡ call_printed (λ settings. filled settings s sheet) room (with_places s sheet (with_sheet sheet c))
   unfolding call_printed
   without sheet front (Ok settings) e f = rw (e, f)
   without sheet front (Err refusal) e f = refl
 
   long_sheet : (sheet front : List ℕ) → is_sheet sheet ≡ false → is_sheet front ≡ false → fill_printed s front room ≡ fill_printed s sheet room
-  unfolding checked_with
+  unfolding fill_checked checked_with
   long_sheet sheet front e f = without sheet front (checked 0 0 0 s) e f
 
   sheet_by : (sheet : List ℕ) → (65536 < length sheet) ⊎ (length sheet ≤ 65536) → fill_printed s (take 65537 sheet) room ≡ fill_printed s sheet room

@@ -6,10 +6,13 @@ pub mod NamedEntries
 pub mod KeyTexts
 pub mod GetByCases
 pub mod TokensInside
+pub mod Noughts
 pub mod FillWalk
 pub mod LongestValues
 pub mod FilledShort
+pub mod FillAnswers
 pub mod PartBytes
 pub mod Lookups
+pub mod AcceptedFills
 pub mod FillIsLookups
 pub mod UntakenValues

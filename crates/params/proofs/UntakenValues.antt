@@ -23,8 +23,9 @@ use Rattle.params.specs.declared.QueryParams.{QueryParams}
 use Rattle.params.specs.declared.QueryParams.TheVariants as Q
 use Rattle.params.specs.Sheet.{kind_of, params_of, count_of, place_of, name_of, value_at, value_of, is_sheet}
 use Rattle.params.specs.Get.{first_named, with_name, by_name, by_index, taken_from, taken, value_part, value_or, get, index_past}
+use Rattle.params.specs.Nought.{first_nought}
 use Rattle.params.specs.Filled.{is_placeholder, stands_for, index_after, part_bytes, filled_from, filled}
-use Rattle.params.specs.Answers.{checked_with, fill_answer, fill_output}
+use Rattle.params.specs.Answers.{checked_with, unless_nought, fill_checked, fill_answer, fill_output}
 use Rattle.calls.specs.declared.Refusal.{Refusal}
 
 -- the values that the placeholders among these tokens take from sheet a, from a counter on, are the same in sheet b
@@ -105,17 +106,25 @@ module _ (s a b : List ℕ) (kind : kind_of a ≡ kind_of b) (count : count_of a
   module _ (good_a : is_sheet a ≡ true) (good_b : is_sheet b ≡ true) (dialect joins named : ℕ)
       (agree : (settings : Settings) → checked dialect joins named s ≡ Ok settings → TakenAgree s a b 0 (tokens settings s)) where
     pub untaken_answer : (room : ℕ) → fill_answer s dialect joins named a room ≡ fill_answer s dialect joins named b room
-    unfolding call_answer checked_with filled
+    unfolding call_answer checked_with fill_checked filled
     untaken_answer room = go (checked dialect joins named s) refl
       where
         go : (c : Result Settings Refusal) → checked dialect joins named s ≡ c → fill_answer s dialect joins named a room ≡ fill_answer s dialect joins named b room
-        go (Ok settings) e = rw (e, good_a, good_b) (ap (λ (text : List ℕ). text_answer text room) (same_filled (tokens settings s) 0 (agree settings e)))
+        go (Ok settings) e = rw (e, good_a, good_b, ← same_params) (on (first_nought (params_of a) (tokens settings s)))
+          where
+            on : (q : Option ℕ) → call_answer (λ given. filled given s a) room (unless_nought settings q) ≡ call_answer (λ given. filled given s b) room (unless_nought settings q)
+            on (Some n) = refl
+            on None = ap (λ (text : List ℕ). text_answer text room) (same_filled (tokens settings s) 0 (agree settings e))
         go (Err refusal) e = rw e
 
     pub untaken_output : (output : List ℕ) → fill_output s dialect joins named a output ≡ fill_output s dialect joins named b output
-    unfolding call_output checked_with filled
+    unfolding call_output checked_with fill_checked filled
     untaken_output output = go (checked dialect joins named s) refl
       where
         go : (c : Result Settings Refusal) → checked dialect joins named s ≡ c → fill_output s dialect joins named a output ≡ fill_output s dialect joins named b output
-        go (Ok settings) e = rw (e, good_a, good_b) (ap (λ (text : List ℕ). text_after text output) (same_filled (tokens settings s) 0 (agree settings e)))
+        go (Ok settings) e = rw (e, good_a, good_b, ← same_params) (on (first_nought (params_of a) (tokens settings s)))
+          where
+            on : (q : Option ℕ) → call_output (λ given. filled given s a) output (unless_nought settings q) ≡ call_output (λ given. filled given s b) output (unless_nought settings q)
+            on (Some n) = refl
+            on None = ap (λ (text : List ℕ). text_after text output) (same_filled (tokens settings s) 0 (agree settings e))
         go (Err refusal) e = rw e

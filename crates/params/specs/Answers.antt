@@ -1,5 +1,5 @@
 -- What a caller of `fill` and of `lookup` is told, and what becomes of all that is lent.
-use Rattle.std.specs.Prelude.{ℕ, cond, List, [], ◌∷◌, drop, Result, Ok, Err}
+use Rattle.std.specs.Prelude.{ℕ, cond, List, [], ◌∷◌, drop, Option, Some, None, Result, Ok, Err}
 use Rattle.std.specs.Borrow.{Bor}
 use Rattle.calls.specs.declared.Refusal.TheVariants as R
 use Rattle.calls.specs.declared.Settings.{Settings}
@@ -10,11 +10,12 @@ use Rattle.tokenizer.specs.Tokens.{tokens}
 use Rattle.params.specs.declared.Found.{Found}
 use Rattle.params.specs.declared.Part.{Part}
 use Rattle.params.specs.declared.Part.TheVariants as P
-use Rattle.params.specs.Sheet.{is_sheet}
+use Rattle.params.specs.Sheet.{params_of, is_sheet}
+use Rattle.params.specs.Nought.{first_nought}
 use Rattle.params.specs.Filled.{stands_for, index_after, part_bytes, part_length, part_start, filled}
 use Rattle.calls.specs.declared.Refusal.{Refusal}
 
--- a malformed sheet is refused once the statement and the settings are accepted
+-- what both calls refuse: a malformed sheet, once the statement and the settings are accepted
 abbrev pub with_sheet : List ℕ → Result Settings Refusal → Result Settings Refusal
 with_sheet sheet (Ok settings) = cond (is_sheet sheet) (Ok settings) (Err R.Sheet)
 with_sheet sheet (Err refusal) = Err refusal
@@ -24,13 +25,26 @@ checked_with s dialect joins named sheet = with_sheet sheet (checked dialect joi
 
 -- ---- fill
 
+-- this, where no place nought stands in the way
+abbrev pub unless_nought : {A : Type 0} → A → Option ℕ → Result A Refusal
+unless_nought a (Some start) = Err (R.PlaceNought start)
+unless_nought a None = Ok a
+
+-- fill refuses it behind all that a lookup refuses
+abbrev pub with_places : List ℕ → List ℕ → Result Settings Refusal → Result Settings Refusal
+with_places s sheet (Ok settings) = unless_nought settings (first_nought (params_of sheet) (tokens settings s))
+with_places s sheet (Err refusal) = Err refusal
+
+unfoldable pub fill_checked : List ℕ → ℕ → ℕ → ℕ → List ℕ → Result Settings Refusal
+fill_checked s dialect joins named sheet = with_places s sheet (checked_with s dialect joins named sheet)
+
 -- the answer, for a statement, the settings as numbers, a sheet and an output of so many bytes
 abbrev pub fill_answer : List ℕ → ℕ → ℕ → ℕ → List ℕ → ℕ → Result ℕ Refusal
-fill_answer s dialect joins named sheet room = call_answer (λ settings. filled settings s sheet) room (checked_with s dialect joins named sheet)
+fill_answer s dialect joins named sheet room = call_answer (λ settings. filled settings s sheet) room (fill_checked s dialect joins named sheet)
 
 -- the whole output afterwards
 abbrev pub fill_output : List ℕ → ℕ → ℕ → ℕ → List ℕ → List ℕ → List ℕ
-fill_output s dialect joins named sheet output = call_output (λ settings. filled settings s sheet) output (checked_with s dialect joins named sheet)
+fill_output s dialect joins named sheet output = call_output (λ settings. filled settings s sheet) output (fill_checked s dialect joins named sheet)
 
 -- ---- lookup
 

@@ -27,7 +27,7 @@ with_name sheet text = first_named sheet text 0 (count_of sheet)
 unfoldable pub by_name : List ℕ → List ℕ → Option Key → ℕ
 by_name s sheet key = cond (has_key key) (with_name sheet (key_text s key)) (count_of sheet)
 
--- by the index, else the next in turn; a one-indexed zero counts as past the end
+-- by the index, else the next in turn; a one-indexed zero counts as past the end, in a lookup: fill refuses it
 abbrev pub by_index : List ℕ → ℕ → Option Key → ℕ
 by_index sheet index None = index
 by_index sheet index (Some (K.Named start len)) = index

@@ -6,4 +6,5 @@ pub mod Fillings
 pub mod Inside
 pub mod Longest
 pub mod Lookups
+pub mod Noughts
 pub mod Placed

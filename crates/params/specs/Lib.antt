@@ -3,5 +3,6 @@ pub mod Sheet
 pub mod Keys
 pub mod Get
 pub mod Filled
+pub mod Nought
 pub mod Answers
 pub mod Inner

@@ -1,4 +1,4 @@
-// A call of `fill` or `lookup` that is accepted: a search and its sheet.
+// What `fill` and `lookup` both take: a search and its sheet, neither of which is refused.
 use crate::sheet::Sheet;
 use calls::{Refusal, Search, check};
 
@@ -13,7 +13,7 @@ impl<'a> Filling<'a> {
     ghost use Rattle.params.specs.Answers.{checked_with};
     ghost use Rattle.params.specs.Inner.Fillings.{settings_told};
 
-    // What is refused: setting, overlong, not UTF-8, then the sheet.
+    // What both refuse: setting, overlong, not UTF-8, then the sheet.
     #[tactic(auto, unfolding(crate::specs::Answers::checked_with))]
     pub fn check(
         statement: &'a [u8],

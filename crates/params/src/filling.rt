@@ -1,31 +1,29 @@
 // `fill`: the filled text of a statement, into an output that the caller lends.
 ghost use Rattle.std.specs.Prelude.{◌≡◌, length};
 ghost use Rattle.params.specs.Answers.{fill_answer, fill_output};
-ghost use Rattle.params.specs.Inner.Fillings.{text_of};
+ghost use Rattle.params.specs.Inner.Noughts.{measured, unless_full};
 
 use crate::accepting::Filling;
 use crate::longest::most_filled;
-use crate::text::{filled_length, write_filled};
-use calls::{Refusal, Text, write_text};
+use crate::nought::may_hold_nought;
+use crate::text::{measure, write_filled};
+use calls::Refusal;
 
-impl<'a> Text for Filling<'a> {
-    ghost text = { text_of };
-
-    #[tactic(auto, using(crate::proofs::FilledShort::filled_short))]
-    fn most(self) -> usize {
-        most_filled(self)
+// What is refused of the text itself: it is measured where a place nought may stand or the output may be too short.
+#[tactic(auto, using(crate::proofs::FillAnswers::fits_unmeasured))]
+fn check_text(filling: Filling<'_>, room: usize) -> Result<(), Refusal>
+    ensures { result ≡ unless_full room (measured filling.entry) }
+{
+    if room < most_filled(filling) || may_hold_nought(filling) {
+        let needed = measure(filling)?;
+        if room < needed {
+            return Err(Refusal::OutputFull(needed as u64));
+        }
     }
-
-    fn length(self) -> usize {
-        filled_length(self)
-    }
-
-    fn write(self, output: &mut [u8]) -> usize {
-        write_filled(self, output)
-    }
+    Ok(())
 }
 
-#[tactic(auto, unfolding(calls::specs::Texts::call_answer, calls::specs::Texts::call_output))]
+#[tactic(auto, unfolding(calls::specs::Texts::call_answer, calls::specs::Texts::call_output, crate::specs::Answers::fill_checked), using(crate::proofs::FillAnswers::has_room, crate::proofs::FillAnswers::refused_answer, crate::proofs::FillAnswers::refused_output, crate::proofs::FillAnswers::written_answer, crate::proofs::FillAnswers::written_output))]
 pub fn fill(
     statement: &[u8],
     dialect: u64,
@@ -38,5 +36,6 @@ pub fn fill(
     ensures output_after { output.new ≡ fill_output statement.now dialect joins named sheet.now output.old }
 {
     let filling = Filling::check(statement, dialect, joins, named, sheet)?;
-    write_text(filling, output)
+    check_text(filling, output.len())?;
+    Ok(write_filled(filling, output) as u64)
 }

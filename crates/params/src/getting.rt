@@ -3,7 +3,7 @@ ghost use Rattle.std.specs.Prelude.{◌≡◌, drop};
 ghost use Rattle.params.specs.Inner.Entries.{entries, entries_left};
 
 use crate::entries::Entries;
-use crate::keys::{has_name, index_told, is_placeholder, own_text};
+use crate::keys::{has_name, index_told, is_nought, is_placeholder, own_text};
 use crate::sheet::Sheet;
 use crate::{Part, QueryParams};
 use tokenizer::PlacedToken;
@@ -34,6 +34,7 @@ impl<'a> Params<'a> {
     ghost use Rattle.params.specs.Sheet.{params_of};
     ghost use Rattle.params.specs.Get.{taken_from, counted_on};
     ghost use Rattle.params.specs.Filled.{index_after};
+    ghost use Rattle.params.specs.Nought.{stops};
     ghost use Rattle.params.specs.Inner.Entries.{numbered, turn_from};
     ghost use Rattle.params.specs.Inner.Placed.{value_for, part_for};
 
@@ -96,9 +97,15 @@ impl<'a> Params<'a> {
     fn takes_turn(&self, token: PlacedToken<'_>) -> bool
         ensures { result ≡ turn_from (params_of self.now.sheet.headed.bytes.now) token.entry.statement.now token.entry.token.key }
     {
-        matches!(self.sheet.params(), QueryParams::Indexed)
-            && !has_name(token)
-            && index_told(token.token.key).is_none()
+        self.sheet.is_indexed() && !has_name(token) && index_told(token.token.key).is_none()
+    }
+
+    // A place nought, which stops the fill. Asked of the placeholder first: most tokens are none.
+    #[inline(always)]
+    pub fn stops(&self, token: PlacedToken<'_>) -> bool
+        ensures { result ≡ stops (params_of self.now.sheet.headed.bytes.now) token.entry.token }
+    {
+        is_placeholder(token) && is_nought(token.token.key) && self.sheet.is_indexed()
     }
 
     #[inline(always)]

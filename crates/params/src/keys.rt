@@ -7,6 +7,7 @@ ghost use Rattle.tokenizer.specs.KeyText.{unescaped, key_text};
 ghost use Rattle.params.specs.Keys.{has_name};
 ghost use Rattle.params.specs.Get.{own_text};
 ghost use Rattle.params.specs.Filled.{is_placeholder};
+ghost use Rattle.params.specs.Nought.{is_nought};
 ghost use Rattle.params.specs.Inner.Entries.{index_told};
 
 use crate::Part;
@@ -54,6 +55,13 @@ pub fn is_placeholder(token: PlacedToken<'_>) -> bool
     ensures { result ≡ is_placeholder token.entry.token }
 {
     token.token.kind == TokenKind::Placeholder
+}
+
+// A one-indexed zero.
+pub fn is_nought(key: Option<Key>) -> bool
+    ensures { result ≡ is_nought key }
+{
+    matches!(key, Some(Key::OneIndexed(0)))
 }
 
 #[inline(always)]

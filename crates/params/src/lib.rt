@@ -9,6 +9,7 @@ mod headed;
 mod keys;
 mod longest;
 mod looking;
+mod nought;
 mod parts;
 mod sheet;
 mod text;

@@ -15,6 +15,7 @@ pub struct Sheet<'a> {
 impl<'a> Sheet<'a> {
     ghost use Rattle.std.specs.Prelude.{◌<◌, IfSome, is_some};
     ghost use Rattle.params.specs.Sheet.{params_of, count_of};
+    ghost use Rattle.params.specs.Inner.Noughts.{is_indexed};
 
     #[tactic(auto, unfolding(crate::specs::Sheet::is_sheet))]
     pub fn read(bytes: &'a [u8]) -> Option<Self>
@@ -33,6 +34,12 @@ impl<'a> Sheet<'a> {
         ensures { result ≡ params_of self.entry.headed.bytes.now }
     {
         self.headed.params()
+    }
+
+    pub fn is_indexed(self) -> bool
+        ensures { result ≡ is_indexed (params_of self.entry.headed.bytes.now) }
+    {
+        matches!(self.params(), QueryParams::Indexed)
     }
 
     pub fn count(self) -> usize

@@ -5,13 +5,14 @@ ghost use Rattle.std.proofs.lemmas.List.Edits.{sets};
 ghost use Rattle.calls.specs.Texts.{written_over};
 ghost use Rattle.params.specs.Filled.{part_length};
 ghost use Rattle.params.specs.Inner.Fillings.{text_of};
+ghost use Rattle.params.specs.Inner.Noughts.{measured};
 ghost use Rattle.params.specs.Inner.Placed.{part_for, bytes_to_put};
 
 use crate::accepting::Filling;
 use crate::getting::{Params, params_at};
 use crate::keys::is_placeholder;
 use crate::parts::{part_length, put_part};
-use calls::{Search, put_bytes};
+use calls::{Refusal, Search, put_bytes};
 use tokenizer::{PlacedToken, Tokens};
 
 // The length of what stands for a token.
@@ -49,9 +50,10 @@ fn put_for(params: &Params<'_>, token: PlacedToken<'_>, output: &mut [u8], at: u
     at + token.token.len
 }
 
-// The walk that measures and the one that writes are two, here as in tight: what each does with a token is most of it.
-pub fn filled_length(filling: Filling<'_>) -> usize
-    ensures { result ≡ length (text_of filling.entry) }
+// The length, or the first place nought as the refusal. The walk that measures and the one that writes are two, here as in tight: what
+// each does with a token is most of it.
+pub fn measure(filling: Filling<'_>) -> Result<usize, Refusal>
+    ensures { result ≡ measured filling.entry }
 {
     let Search { text, settings } = filling.search;
     let mut count = 0;
@@ -61,10 +63,13 @@ pub fn filled_length(filling: Filling<'_>) -> usize
             statement: text,
             token,
         };
+        if params.stops(placed) {
+            return Err(Refusal::PlaceNought(token.start as u64));
+        }
         count += length_for(&params, placed);
         params.params_past(placed);
     }
-    count
+    Ok(count)
 }
 
 // How many bytes were written.

@@ -1,11 +1,11 @@
--- For inner contracts alone: what is known of an accepted call, and the text that it gives.
+-- For inner contracts alone: what is known of a call that a lookup would accept, and the filled text.
 use Rattle.std.specs.Prelude.{ℕ, List, Result, Ok, Err}
 use Rattle.calls.specs.declared.Refusal.{Refusal}
 use Rattle.calls.specs.declared.Settings.{Settings}
 use Rattle.params.specs.declared.accepting.Filling.{Filling}
 use Rattle.params.specs.Filled.{filled}
 
--- the settings of an accepted call
+-- its settings
 abbrev pub settings_told : Result Filling Refusal → Result Settings Refusal
 settings_told (Ok f) = Ok f.search.settings
 settings_told (Err refusal) = Err refusal
