@@ -49,6 +49,9 @@ void refused(const char *call, uint64_t answer) {
     case VENTPEELER_OUTPUT_FULL:
         fprintf(stderr, "the output is too small: the text has %llu bytes\n", detail);
         break;
+    case VENTPEELER_PLACE_NOUGHT:
+        fprintf(stderr, "place 0 at byte %llu: places count from 1\n", detail);
+        break;
     default:
         fprintf(stderr, "an answer that the header does not name\n");
     }

@@ -23,16 +23,19 @@
  *     5 VENTPEELER_SHEET          fill: the value sheet is malformed             0
  *     6 VENTPEELER_OUTPUT_FULL    tighten, fill: the output is shorter than      bytes needed
  *                                 the text
+ *     8 VENTPEELER_PLACE_NOUGHT   fill, with indexed values: a placeholder       where the first such token starts
+ *                                 for place 0, as `$0`
  *
- * A number stands exactly under its condition; where several hold, the first of 3, 1, 2, 5, 4, 6 is given. All 64 bits of a
- * setting are judged: a dialect of 2^32 + 1 is refused.
+ * A number stands exactly under its condition; where several hold, the first of 3, 1, 2, 5, 8, 4, 6 is given. 7 is no answer of
+ * these calls. All 64 bits of a setting are judged: a dialect of 2^32 + 1 is refused.
  *
- * A refusal (1 to 6) writes nothing. On success the first bytes lent are written and what lies past them is kept: past the
+ * A refusal (all but 0) writes nothing. On success the first bytes lent are written and what lies past them is kept: past the
  * last record, or past the text, and also the odd bytes of a table that is no multiple of VENTPEELER_RECORD_BYTES. What a
  * buffer lent for writing held before makes no difference. No text is ended by a zero byte, and a zero byte is a character
  * like others.
  *
- * To learn a size first, lend no bytes: the answer is then 4 or 6 with the size, or 0 where nothing is to be written.
+ * To learn a size first, lend no bytes: the answer is then 4 or 6 with the size, or 0 where nothing is to be written, or another
+ * refusal.
  * Sizes that always suffice: VENTPEELER_RECORD_BYTES * statement_len for the records, statement_len for the tight text,
  * statement_len * V for the filled text, V being the length of the longest value, and 1 where none is longer. A filled text
  * can be longer than the statement and all values together, since a value may be put in many times.
@@ -49,8 +52,9 @@
  *
  * A call's time grows with the length of the statement, whatever the text says: the worst text that was found takes three times
  * as long as an ordinary search of its length. Where the room lent always suffices, by the sizes above, the statement is read
- * once; with less room it is read once before, to learn the size, and the call takes twice as long. fill takes one step in the
- * sheet for each value that is next in turn (`?`). A value by its name or by its place (`$9000`) is looked for from the sheet's
+ * once; with less room it is read once before, to learn the size, and the call takes twice as long. So it does in fill with
+ * indexed values, whatever the room, where a `$` stands directly before a `0` in the statement, be it in a string: it may be a
+ * place nought. fill takes one step in the sheet for each value that is next in turn (`?`). A value by its name or by its place (`$9000`) is looked for from the sheet's
  * first entry on: many placeholders whose names or places stand far down a long sheet, or whose names stand nowhere in it, take
  * time that grows with the product of both lengths.
  *
@@ -74,6 +78,8 @@
  *         tokens may be too small now; records kept from before don't fit ventpeeler_token_at
  *     4   tighten keeps a gap that returns as a CR. Tight texts of searches with a CR without LF are others than before, and are
  *         keys as good as all others now; keys kept of such searches are to be made anew. All other tight texts are as they were
+ *     5   fill with indexed values answers 8 where `$0` (`$00` ..) stands, which it kept in the text before. Whoever takes each number
+ *         above 6 for a fault of his own must know 8; the planner is to be told, since he mostly means `$1`. All else is as it was
  */
 #ifndef VENTPEELER_H
 #define VENTPEELER_H
@@ -85,7 +91,7 @@
 extern "C" {
 #endif
 
-#define VENTPEELER_VERSION 4
+#define VENTPEELER_VERSION 5
 
 #define VENTPEELER_STATEMENT_MOST 65536 /* bytes of a statement */
 #define VENTPEELER_SHEET_LEAST 3        /* bytes of a sheet */
@@ -100,7 +106,8 @@ enum ventpeeler_answer {
     VENTPEELER_SETTING = 3,
     VENTPEELER_TABLE_FULL = 4,
     VENTPEELER_SHEET = 5,
-    VENTPEELER_OUTPUT_FULL = 6
+    VENTPEELER_OUTPUT_FULL = 6,
+    VENTPEELER_PLACE_NOUGHT = 8
 };
 
 enum ventpeeler_dialect { VENTPEELER_GENERIC = 0, VENTPEELER_POSTGRESQL = 1, VENTPEELER_SQLSERVER = 2 };
@@ -217,9 +224,12 @@ uint64_t ventpeeler_tighten(const uint8_t *statement, size_t statement_len, uint
  *     named       a placeholder with a key takes the value of the first entry whose name is the key's text, escapes undone;
  *                 an indexed key (`?1`, `$1`) counts as the empty name. Without such an entry, or without a key, it is kept
  *     indexed     a placeholder with a name is kept, unless the name is empty. `?n` takes value n, counted from 0, and `$n`
- *                 value n, counted from 1; with no such value, as always for `$0`, it is kept. All others (`?`, a number
- *                 beyond 64 bits, the empty name of @'') take the next value in turn, or are kept past the last; only these
- *                 move the turn on
+ *                 value n, counted from 1; with no such value it is kept. All others (`?`, a number beyond 64 bits, the empty
+ *                 name of @'') take the next value in turn, or are kept past the last; only these move the turn on
+ *
+ * With indexed values, be there none, `$0` (`$00` ..) is a mistake, since these places count from 1: the call is refused by 8. With
+ * other sheets it is not: named values take it for the empty name, as all indexed keys. With named placeholders (named 1) `$0` is
+ * the name 0 and no place.
  *
  * Under the sheet above `? $2 ?` becomes `7 8 8`, and `?2` is kept. A value is put in as it is: nothing is quoted or escaped,
  * and a placeholder within a value is not filled. Inside strings and comments there are no placeholders.

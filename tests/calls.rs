@@ -43,6 +43,7 @@ pub const SETTING: u64 = 3;
 pub const TABLE_FULL: u64 = 4;
 pub const SHEET: u64 = 5;
 pub const OUTPUT_FULL: u64 = 6;
+pub const PLACE_NOUGHT: u64 = 8;
 
 pub const WHITESPACE: u32 = 1;
 pub const STRING: u32 = 2;

@@ -6,9 +6,10 @@ and the lookup must answer and write.
 
 The tokens come from tools/reading.py. `get` below is `Params::get` of
 src/params.rs line by line, with document 01's word on `$0`; the sheet is read
-by document 01's sentences on it. No answer comes from the port. What document 01
-says of a sheet and a search by itself is written out here, and this program
-stops where it comes to another text (`WORKED`).
+by document 01's sentences on it; `first_nought` by document 02's request [4]. No
+answer comes from the port. What the documents say of a sheet and a search by
+itself is written out here, and this program stops where it comes to another
+text or another refusal (`WORKED`, `NOUGHTS`).
 """
 
 import sys
@@ -22,8 +23,8 @@ LARGEST = 2**64 - 1
 ABOUT = """\
 Value sheets, searches, settings, and the answers of fill and of the lookup. They are made from the tokens of a reading of
 src/tokenizer.rs in Python (tools/reading.py), by a reading of src/params.rs and of document 01's sentences on sheet, filled
-text and lookup (tools/fill_vectors.py), independently of the port and never from its output. What document 01 says of a sheet
-and a search by itself was laid beside it by hand. Printed by tools/fill_vectors.py.
+text and lookup, and of document 02's request [4] (tools/fill_vectors.py), independently of the port and never from its output.
+What the documents say of a sheet and a search by itself was laid beside it by hand. Printed by tools/fill_vectors.py.
 """
 
 # A part is where it lies, where it starts there, and its bytes.
@@ -123,7 +124,7 @@ def stands_for(kind, entries, index, token, own):
 
 
 # --------------------------------------------------------------------------
-# Document 01: the answers
+# Documents 01 and 02: the answers
 
 
 def own_parts(tokens):
@@ -149,10 +150,21 @@ def accepted(statement, dialect, joins, named_, sheet):
     return None, own_parts(tokens), read
 
 
+def first_nought(tokens):
+    """Document 02 [4]: where the first placeholder starts whose key is one-indexed zero"""
+    for token, (_, start, _) in tokens:
+        if token.kind == reading.PLACEHOLDER and isinstance(token.key, reading.OneIndexed) and token.key.index == 0:
+            return start
+    return None
+
+
 def fill(statement, dialect, joins, named_, sheet, lent):
     refusal, tokens, read = accepted(statement, dialect, joins, named_, sheet)
     if refusal is not None:
         return *refusal, b""
+    nought = first_nought(tokens) if read[0] == 2 else None
+    if nought is not None:
+        return 8, nought, b""
     text = b""
     index = 0
     for token, own in tokens:
@@ -209,8 +221,6 @@ EXAMPLE = bytes.fromhex("020200010001003738")
 WORKED = (
     (EXAMPLE, "? $2 ?", "7 8 8"),
     (EXAMPLE, "?2", "?2"),
-    # a one-indexed zero keeps its text and leaves the counter
-    (EXAMPLE, "$0 $00 ? $0 ?", "$0 $00 7 $0 8"),
     # a named sheet's empty name also meets `?1` and `$0`
     (named(("", "x")), "?1 $0 ? $1", "x x ? x"),
     # the key of `@''` is empty, so an indexed sheet gives it the next value
@@ -227,6 +237,92 @@ def worked(lines):
         if (number, got) != (0, expected.encode("utf-8")) or detail != len(got):
             sys.exit(f"{text!r}: the tokens give {got!r}, not {expected!r}")
         lines.fill(sheet, text)
+
+
+# --------------------------------------------------------------------------
+# A one-indexed zero: search, whether named placeholders are tried first, and the first place nought, with an indexed sheet
+
+NOUGHTS = (
+    ("$0", 0, 0),
+    ("$00", 0, 0),
+    ("$000000000000000000000000000000000000", 0, 0),
+    ("? $0", 0, 2),
+    ("$0 ?", 0, 0),
+    ("$1 $0 $2 $00 $0", 0, 3),
+    ("a=$0", 0, 2),
+    ("a$0", 0, 1),
+    ("$0$0", 0, 0),
+    ("$0a", 0, 0),
+    ("$0.5", 0, 0),
+    ("?$0", 0, 1),
+    ("é = $0", 0, 5),
+    ("板坯 $00 ?", 0, 7),
+    ("'$0' $0", 0, 5),
+    ("'$0' \"$0\" `$0` ? $0", 0, 17),
+    ("-- $0\n$0", 0, 6),
+    ("/* $0 */ $00", 0, 9),
+    ("[$0]", 0, 1),
+    # in a string, a comment, a name, or a longer number it is none
+    ("'$0' ?", 0, None),
+    ("-- $0", 0, None),
+    ("/* $0 $0 */ ?", 0, None),
+    ("{$0} ?", 0, None),
+    ("$$0", 0, None),
+    ("@'$0' ?", 0, None),
+    ("$01 $001 $1", 0, None),
+    ("?0 ?00 ?", 0, None),
+    (":0 @0 {0}", 0, None),
+    ("$ 0", 0, None),
+    ("$10 $100", 0, None),
+    ("$18446744073709551616", 0, None),
+    ("$", 0, None),
+    ("0$", 0, None),
+    # with named placeholders first `$0` is a name
+    ("$0", 1, None),
+    ("$00 ? $0", 1, None),
+    (":0 @0 ?0", 1, None),
+)
+
+NOUGHT_SHEETS = (EXAMPLE, indexed(), indexed(""), indexed("a value of some length"), NONE, named(), named(("", "x")), named(("0", "y"), ("a", "1")))
+MALFORMED = (b"", b"\x02\x01\x00", EXAMPLE + b"x", b"\x03\x00\x00")
+
+
+def noughts(lines):
+    lines.group("a one-indexed zero: the first, the last and several; where the bytes of one are none; each kind of sheet")
+    for text, named_, expected in NOUGHTS:
+        statement = text.encode("utf-8")
+        got = fill(statement, 0, 0, named_, EXAMPLE, MANY)
+        if (got[0], got[1]) != (8, expected) if expected is not None else got[0] != 0:
+            sys.exit(f"{text!r}: the tokens give {got}, not {expected}")
+        for sheet in NOUGHT_SHEETS:
+            lines.fill(sheet, text, 0, 0, named_)
+        lines.fill(EXAMPLE, text, 1, 1, named_)
+        lines.fill(EXAMPLE, text, 2, 0, named_)
+    lines.group("a one-indexed zero: an output too small comes behind it, a malformed sheet and all else before it")
+    for text in ("$0", "? $1 $00 ?", "'$0' ?", "$0 ?"):
+        for sheet in NOUGHT_SHEETS:
+            for lent in (0, 1, len(text) - 1, len(text)):
+                lines.fill(sheet, text, lent=lent)
+        for sheet in MALFORMED:
+            for lent in (0, MANY):
+                lines.fill(sheet, text, lent=lent)
+        for settings in ((3, 0, 0), (0, 2, 0), (0, 0, 2)):
+            lines.fill(EXAMPLE, text, *settings)
+        lines.fill(EXAMPLE, text.encode("utf-8") + b"\xff")
+    lines.group("a one-indexed zero in long searches: at the start, at the end, and nowhere")
+    lines.fill(EXAMPLE, b"$0" + b"a" * 65534)
+    lines.fill(EXAMPLE, b"a" * 65534 + b"$0")
+    lines.fill(EXAMPLE, b"a" * 65534 + b"$0", lent=0)
+    lines.fill(EXAMPLE, b"a" * 65535 + b"$")
+    lines.fill(EXAMPLE, b"a" * 65535 + b"$0")
+    lines.fill(EXAMPLE, b"$0" * 300)
+    lines.fill(NONE, b"$0" * 300)
+    # where a byte and the one behind it stand on both sides of a border of a power of two
+    for at in (15, 16, 31, 32, 63, 64, 127, 128, 4095, 4096):
+        lines.fill(EXAMPLE, b" " * at + b"$0 ?")
+    lines.group("a one-indexed zero: the lookup keeps its text and the counter")
+    for sheet in NOUGHT_SHEETS:
+        lines.lookup(sheet, "$0 ? $00", range(6), (0, 1, LARGEST))
 
 
 # --------------------------------------------------------------------------
@@ -375,7 +471,7 @@ def longest(lines):
 
 def main():
     lines = Filled(ABOUT, "vwsfo=ltg")
-    for group in (worked, faults, keys, places, refusals, longest):
+    for group in (worked, noughts, faults, keys, places, refusals, longest):
         group(lines)
     lines.print()
 

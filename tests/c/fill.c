@@ -1,4 +1,4 @@
-/* ventpeeler_fill through the header. All expected answers and texts are worked out by hand from document 01. */
+/* ventpeeler_fill through the header. All expected answers and texts are worked out by hand from documents 01 and 02. */
 #include "lent.h"
 
 /* Bytes that may hold a zero. */
@@ -41,7 +41,10 @@ static const struct search searches[] = {
     {"?1 ? ?0 ?", {0, 0, 0}, SEVEN_EIGHT, "8 7 7 8"}, /* ?1 and ?0 are not counted */
     {"? ? ? ?", {0, 0, 0}, SEVEN_EIGHT, "7 8 ? ?"},
     {"$3 $1 $2", {0, 0, 0}, SEVEN_EIGHT, "$3 7 8"},
-    {"$0 ? $00 ?", {0, 0, 0}, SEVEN_EIGHT, "$0 7 $00 8"}, /* $0 is past the end and leaves the turn */
+    {"$0 ? $00 ?", {0, 0, 1}, SEVEN_EIGHT, "$0 7 $00 8"}, /* with named placeholders it is a name */
+    {"'$0' ? -- $0", {0, 0, 0}, SEVEN_EIGHT, "'$0' 7 -- $0"},
+    {"$01 ?0 :0 @0 ?", {0, 0, 0}, SEVEN_EIGHT, "7 7 :0 @0 7"},
+    {"$0 ? $00", {0, 0, 0}, NO_VALUES, "$0 ? $00"},
     {":a ? {b} ?", {0, 0, 0}, SEVEN_EIGHT, ":a 7 {b} 8"}, /* names leave it too */
     {"@'' ?", {0, 0, 0}, SEVEN_EIGHT, "7 8"},             /* the empty name takes the next value */
     {"?18446744073709551616 ?", {0, 0, 0}, SEVEN_EIGHT, "7 8"},
@@ -183,6 +186,30 @@ static void refuse_in_order(void) {
     fill_into(text_of("a"), good, good_sheet, 0, full, "");
 }
 
+/* The first one's start is told, whatever the room: 8 comes before 6. */
+static void refuse_places_nought(void) {
+    static const struct {
+        const char *text;
+        uint64_t at;
+    } noughts[] = {
+        {"$0", 0}, {"$00", 0}, {"? $1 $000", 5}, {"$0 $00 $0", 0}, {"'$0' ? a=$0", 9}, {"-- $0\n$0", 6}, {"\xc3\xa9$0", 2}, {"a$0b", 1},
+    };
+    struct settings settings = {0, 0, 0}, names = {0, 0, 1};
+    struct bytes sheet = SEVEN_EIGHT, no_entries = BYTES("\2\0\0"), bad_sheet = BYTES("\2\0\0a");
+    for (size_t i = 0; i < sizeof noughts / sizeof noughts[0]; i++) {
+        struct bytes text = text_of(noughts[i].text);
+        struct expected nought = {VENTPEELER_PLACE_NOUGHT, noughts[i].at}, malformed_sheet = {VENTPEELER_SHEET, 0};
+        size_t rooms[] = {0, 1, text.length, 100, 65536};
+        for (size_t k = 0; k < sizeof rooms / sizeof rooms[0]; k++) {
+            fill_into(text, settings, sheet, rooms[k], nought, "");
+            fill_into(text, settings, no_entries, rooms[k], nought, "");
+            fill_into(text, settings, bad_sheet, rooms[k], malformed_sheet, "");
+        }
+    }
+    struct expected kept = {VENTPEELER_DONE, 2};
+    fill_into(text_of("$0"), names, sheet, 2, kept, "$0");
+}
+
 static void accept_settings(void) {
     struct bytes sheet = SEVEN_EIGHT;
     struct expected done = {VENTPEELER_DONE, 3};
@@ -240,6 +267,7 @@ int main(void) {
     accept_settings();
     refuse_sheets();
     refuse_in_order();
+    refuse_places_nought();
     fill_longest();
     fill_beside();
     return tell();

@@ -1,5 +1,5 @@
 // Properties of fill over searches and sheets at random: `random_fill --texts N --seed N`. What a placeholder takes is worked
-// out here from the tokens that tokenize gives, by document 01's rules.
+// out here from the tokens that tokenize gives, by document 01's rules, and what stops the fill by document 02's.
 #[path = "../calls.rs"]
 mod calls;
 mod lists;
@@ -59,13 +59,21 @@ fn filled(case: &Case, sheet: &[u8]) -> (Answer, Vec<u8>) {
     (fill(&case.text, case.settings, sheet, &mut output), output)
 }
 
+// Where the one-indexed zeros start; there are none that count with other sheets than indexed ones.
+fn noughts(case: &Case, sheet: &Sheet) -> Vec<u64> {
+    let tokens = tokens(&case.text, case.settings).unwrap_or_default();
+    let stops = |token: &&Token| sheet.kind == INDEXED && token.kind == PLACEHOLDER && token.key == Key::OneIndexed(0);
+    tokens.iter().filter(stops).map(|token| token.start as u64).collect()
+}
+
 // The refusals before that of the sheet are tokenise's.
 fn refusal(case: &Case) -> Option<Answer> {
     let answer = tokenize(&case.text, case.settings, &mut []);
-    if [DONE, TABLE_FULL].contains(&answer.0) {
-        return Sheet::read(&case.sheet).is_none().then_some((SHEET, 0));
+    if ![DONE, TABLE_FULL].contains(&answer.0) {
+        return Some(answer);
     }
-    Some(answer)
+    let Some(sheet) = Sheet::read(&case.sheet) else { return Some((SHEET, 0)) };
+    Some((PLACE_NOUGHT, *noughts(case, &sheet).first()?))
 }
 
 fn refuses(case: &Case) -> Verdict {
@@ -175,6 +183,20 @@ fn wrong_all_are_counted(case: &Case) -> Verdict {
     holds(output.ends_with(&sheet.entries[turn].1), || output.escape_ascii().to_string())
 }
 
+fn wrong_the_last_is_told(case: &Case) -> Verdict {
+    let (answer, _) = filled(case, &case.sheet);
+    let (PLACE_NOUGHT, Some(sheet)) = (answer.0, Sheet::read(&case.sheet)) else { return Aside };
+    holds(noughts(case, &sheet).last() == Some(&answer.1), || format!("{:?}", answer))
+}
+
+// A `$0` anywhere, be it in a string or of a longer number.
+fn wrong_bytes_stop(case: &Case) -> Verdict {
+    let (answer, _) = filled(case, &case.sheet);
+    let (DONE, Some(sheet)) = (answer.0, Sheet::read(&case.sheet)) else { return Aside };
+    let pair = case.text.windows(2).any(|pair| pair == b"$0");
+    holds(sheet.kind != INDEXED || !pair, || "filled".to_string())
+}
+
 fn wrong_sheets_are_accepted(case: &Case) -> Verdict {
     let (answer, _) = filled(case, &case.sheet);
     holds(answer.0 != SHEET, || "malformed".to_string())
@@ -183,7 +205,7 @@ fn wrong_sheets_are_accepted(case: &Case) -> Verdict {
 fn main() {
     let (count, seed) = asked_for(1_000_000);
     let mut properties = [
-        right("refusals are tokenise's, then malformed sheets, and write nothing", refuses),
+        right("refusals are tokenise's, then malformed sheets, then places nought, and write nothing", refuses),
         right("the filled text is the values with what each placeholder takes", is_by_rule),
         right("a sheet without values gives the statement back", nothing_gives_the_statement),
         right("an output: exactly full, one byte short, the rest kept", output_is_told),
@@ -193,6 +215,8 @@ fn main() {
         wrong("WRONG: no longer than the statement and all values together", wrong_no_longer_than_text_and_values),
         wrong("WRONG: the filled text is the search", wrong_nothing_is_filled),
         wrong("WRONG: `?1` moves the turn on", wrong_all_are_counted),
+        wrong("WRONG: the last place nought is told", wrong_the_last_is_told),
+        wrong("WRONG: the bytes of a place nought stop the fill wherever they stand", wrong_bytes_stop),
         wrong("WRONG: no sheet is malformed", wrong_sheets_are_accepted),
     ];
     let mut chance = Chance::new(seed);
