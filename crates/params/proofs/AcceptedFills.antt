@@ -5,20 +5,18 @@ use Rattle.std.proofs.Common.{Option, Some, None}
 use Rattle.std.specs.Prelude.{Result, Ok, Err}
 use Prim.Native.Nat.{ℕ}
 use native.Mathlib.Omega.{arith}
-use mathlib.Core.Path.{◌≡◌, refl, sym, ap, ◌∙◌}
-use mathlib.Core.Bool.{Bool, true, false, ◌&&◌}
-use mathlib.Core.List.{List, [], ◌∷◌}
+use mathlib.Core.Path.{◌≡◌, refl, ap, ◌∙◌}
+use mathlib.Core.Bool.{false, ◌&&◌}
+use mathlib.Core.List.{List}
 use Rattle.calls.specs.declared.Refusal.{Refusal}
 use Rattle.calls.specs.declared.Settings.{Settings}
 use Rattle.calls.proofs.Checks.{refused_accepted}
-use Rattle.tokenizer.specs.declared.Token.{Token}
 use Rattle.tokenizer.specs.Tokens.{tokens}
 use Rattle.tokenizer.proofs.EachToken.{Each}
-use Rattle.params.specs.declared.QueryParams.{QueryParams}
 use Rattle.params.specs.declared.QueryParams.TheVariants as Q
 use Rattle.params.specs.Sheet.{params_of}
 use Rattle.params.specs.Filled.{is_placeholder}
-use Rattle.params.specs.Nought.{is_nought, stops, first_nought}
+use Rattle.params.specs.Nought.{is_nought, first_nought}
 use Rattle.params.specs.Answers.{checked_with, unless_nought, with_places, fill_checked}
 use Rattle.params.proofs.Noughts.{none_stops}
 

@@ -8,19 +8,16 @@ use native.Mathlib.Nat.{le_trans}
 use native.Mathlib.Omega.{arith}
 use mathlib.Core.Path.{◌≡◌, refl, sym, ap, ◌∙◌}
 use mathlib.Core.Bool.{Bool, true, false, cond}
-use mathlib.Core.List.{List, ◌++◌}
+use mathlib.Core.List.{List}
 use borrow.Author.Tests.{le-ltb, ltb-false}
 use lib.Dec.{ltb}
-use lib.ListN.{length, drop}
+use lib.ListN.{length}
 use Rattle.calls.specs.declared.Refusal.{Refusal}
-use Rattle.calls.specs.declared.Refusal.TheVariants.{OutputFull, PlaceNought}
+use Rattle.calls.specs.declared.Refusal.TheVariants.{OutputFull}
 use Rattle.calls.specs.Texts.{text_answer, text_after, call_answer, call_output, written_over}
-use Rattle.tokenizer.specs.Tokens.{tokens}
 use Rattle.params.specs.declared.accepting.Filling.{Filling}
-use Rattle.params.specs.Sheet.{params_of}
-use Rattle.params.specs.Nought.{first_nought}
 use Rattle.params.specs.Filled.{filled}
-use Rattle.params.specs.Answers.{checked_with, unless_nought, with_places, fill_checked, fill_answer, fill_output}
+use Rattle.params.specs.Answers.{checked_with, unless_nought, fill_checked, fill_answer, fill_output}
 use Rattle.params.specs.Inner.Fillings.{text_of}
 use Rattle.params.specs.Inner.Longest.{most_filled}
 use Rattle.params.specs.Inner.Noughts.{may_hold_nought, nought_of, measured, unless_full}
