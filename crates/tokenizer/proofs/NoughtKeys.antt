@@ -1,7 +1,7 @@
 -- A token whose key is a one-indexed zero begins with `$0`: the only recogniser that gives such a key reads digits behind a `$`.
 -- Assumes nothing.
 use Rattle.std.proofs.Common.{Option, Some, None}
-use Prim.Native.Nat.{ℕ, zero, suc, ◌+◌, ◌-◌, ◌*◌, ◌^◌, ◌≤◌, ◌<◌}
+use Prim.Native.Nat.{ℕ, suc, ◌+◌, ◌-◌, ◌*◌, ◌^◌, ◌≤◌, ◌<◌}
 use native.Mathlib.Nat.{le_trans}
 use native.Mathlib.Omega.{arith}
 use mathlib.Core.Path.{◌≡◌, refl, ◌∙◌, subst}
@@ -40,7 +40,7 @@ use Rattle.reserved.specs.Reserved.{top_level_token, newline_token, get_top_leve
 use Rattle.calls.specs.declared.Settings.{Settings}
 use Rattle.tokenizer.specs.declared.Memory.{Memory}
 use Rattle.tokenizer.specs.NextToken.{next_piece}
-use Rattle.tokenizer.specs.Tokens.{placed, token_at, tokens}
+use Rattle.tokenizer.specs.Tokens.{placed, tokens}
 use Rattle.tokenizer.proofs.ByOrder.{by_order}
 use Rattle.tokenizer.proofs.EachToken.{Each, each_token}
 
