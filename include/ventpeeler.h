@@ -35,10 +35,9 @@
  * like others.
  *
  * To learn a size first, lend no bytes: the answer is then 4 or 6 with the size, or 0 where nothing is to be written, or another
- * refusal.
- * Sizes that always suffice: VENTPEELER_RECORD_BYTES * statement_len for the records, statement_len for the tight text,
- * statement_len * V for the filled text, V being the length of the longest value, and 1 where none is longer. A filled text
- * can be longer than the statement and all values together, since a value may be put in many times.
+ * refusal. Sizes that always suffice: VENTPEELER_RECORD_BYTES * statement_len for the records, statement_len for the tight
+ * text, statement_len * V for the filled text, V being the length of the longest value, and 1 where none is longer. A filled
+ * text can be longer than the statement and all values together, since a value may be put in many times.
  *
  * POINTERS
  *
@@ -54,9 +53,9 @@
  * as long as an ordinary search of its length. Where the room lent always suffices, by the sizes above, the statement is read
  * once; with less room it is read once before, to learn the size, and the call takes twice as long. So it does in fill with
  * indexed values, whatever the room, where a `$` stands directly before a `0` in the statement, be it in a string: it may be a
- * place nought. fill takes one step in the sheet for each value that is next in turn (`?`). A value by its name or by its place (`$9000`) is looked for from the sheet's
- * first entry on: many placeholders whose names or places stand far down a long sheet, or whose names stand nowhere in it, take
- * time that grows with the product of both lengths.
+ * place nought. fill takes one step in the sheet for each value that is next in turn (`?`). A value by its name or by its place
+ * (`$9000`) is looked for from the sheet's first entry on: many placeholders whose names or places stand far down a long sheet,
+ * or whose names stand nowhere in it, take time that grows with the product of both lengths.
  *
  * SETTINGS
  *
