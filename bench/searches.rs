@@ -16,7 +16,7 @@ fn sentence(chance: &mut Chance, names: &[&str; 6]) -> String {
         1 => format!("WHERE {a} >= ? AND {b} BETWEEN {n} AND {m}.5\n"),
         2 => format!("LEFT JOIN stands ON stands.{a} = gap.{b} -- {c}, {n}\n"),
         3 => format!("AND {a} IN ('{b}', '{c} {m}') AND ({b} <> :{c} OR {a} IS NULL)\n"),
-        _ => format!("GROUP BY {a}, {b} HAVING MAX({c}) > ${m} ORDER BY {a} /* {n} */;\n"),
+        _ => format!("GROUP BY {a}, {b} HAVING MAX({c}) > ${} ORDER BY {a} /* {n} */;\n", m.max(1)),
     }
 }
 

@@ -1,22 +1,23 @@
 -- Where a place nought stands: what the walk that measures passes, and what the statement's bytes tell before it.
 -- Assumes nothing.
-use Rattle.std.proofs.Common.{Option, Some, None}
-use Rattle.std.specs.Prelude.{fold, Ok, Err}
+use Rattle.std.proofs.Common.{Option, Some, None, is_some}
+use Rattle.std.specs.Prelude.{slice_index, Ok, Err}
 use Rattle.std.specs.Iterator.{YieldsFirst}
-use Rattle.std.specs.List.{list_any, zip}
+use Rattle.std.specs.List.{list_any}
 use Rattle.std.proofs.lemmas.Bool.{or_parts}
-use Rattle.std.proofs.Math.Bool.{or-true, or-false, or_assoc}
-use Prim.Native.Nat.{ℕ, zero, suc}
+use Rattle.std.proofs.Math.Bool.{or-true}
+use Prim.Native.Nat.{ℕ, zero, suc, ◌+◌, ◌<◌}
 use native.Mathlib.Omega.{arith}
 use mathlib.Core.Path.{◌≡◌, refl, sym, ap, ◌∙◌}
 use mathlib.Core.List.{List, [], ◌∷◌}
 use mathlib.Core.Bool.{Bool, true, false, cond, and-false, ◌&&◌, ◌||◌, false≢true}
 use borrow.Author.Tests.{eqb-true}
 use lib.Dec.{eqb}
-use lib.ListN.{drop}
+use lib.ListN.{drop, length}
 use Rattle.recognisers.specs.declared.Key.{Key}
 use Rattle.recognisers.specs.declared.Key.TheVariants as K
-use Rattle.recognisers.specs.Text.{byte}
+use Rattle.memchr.specs.Find.{OccursAt, FindsNeedle}
+use Rattle.recognisers.specs.Text.{byte, bytes}
 use Rattle.recognisers.specs.Taking.{starts_with}
 use Rattle.calls.specs.declared.Refusal.TheVariants.{PlaceNought}
 use Rattle.calls.specs.declared.Settings.{Settings}
@@ -120,17 +121,47 @@ held_nowhere settings s sheet h = go (is_indexed (params_of sheet)) (has_nought 
     go true false e f g = no_pair s f (params_of sheet) settings
     go false u e f g = not_indexed (params_of sheet) (tokens settings s) e
 
--- ---- the bytes, looked at
+-- ---- the bytes, looked at: where the pair is found, and where it is found nowhere
 
--- a byte and the one behind it
-abbrev pub pair_seen : Bool → ℕ × ℕ → Bool
-pair_seen found p = found || (eqb p.0 36 && eqb p.1 48)
-
-pub pairs_seen : (s : List ℕ) (found : Bool) → fold pair_seen found (zip s (drop 1 s)) ≡ (found || has_nought s)
+found_pair : (s : List ℕ) (k : ℕ) → suc k < length s → slice_index s k ≡ 36 → slice_index s (suc k) ≡ 48 → has_nought s ≡ true
 unfolding has_nought starts_with
-pairs_seen [] found = sym (or-false found)
-pairs_seen (b ∷ []) found = rw (and-false (eqb b 36)) (sym (or-false found))
-pairs_seen (b ∷ d ∷ s) found = pairs_seen (d ∷ s) (found || (eqb b 36 && eqb d 48)) ∙ or_assoc found (eqb b 36 && eqb d 48) (has_nought (d ∷ s))
+found_pair [] k h e f = absurd (omega arith)
+found_pair (b ∷ []) k h e f = absurd (omega arith)
+found_pair (b ∷ c ∷ s) zero h e f = rw (e, f)
+found_pair (b ∷ c ∷ s) (suc k) h e f = rw (found_pair (c ∷ s) k (omega arith) e f) (or-true (eqb b 36 && eqb c 48))
+
+found_nowhere : (s : List ℕ) → ((k : ℕ) → suc k < length s → slice_index s k ≡ 36 → slice_index s (suc k) ≡ 48 → ⊥) → has_nought s ≡ false
+unfolding has_nought starts_with
+found_nowhere [] h = refl
+found_nowhere (b ∷ []) h = rw (and-false (eqb b 36))
+found_nowhere (b ∷ c ∷ s) h = go (eqb b 36) (eqb c 48) refl refl (found_nowhere (c ∷ s) (λ k l. h (suc k) (omega arith)))
+  where
+    go : (t u : Bool) → eqb b 36 ≡ t → eqb c 48 ≡ u → has_nought (c ∷ s) ≡ false → ((eqb b 36 && eqb c 48) || has_nought (c ∷ s)) ≡ false
+    go true true e f rest = absurd (h 0 (omega arith) (eqb-true b 36 e) (eqb-true c 48 f))
+    go true false e f rest = rw (e, f, rest)
+    go false u e f rest = rw (e, rest)
+
+pub pair_found : (s : List ℕ) (r : Option ℕ) → FindsNeedle s (bytes "$0") 0 r → is_some r ≡ has_nought s
+pair_found s (Some k) (near, here) =
+    let first : k + 0 ≡ k = omega arith in
+    let second : k + 1 ≡ suc k = omega arith in
+    let fits : suc k < length s = omega (arith, here.fits) in
+    sym (found_pair s k fits (rw first at (here.reads 0 (omega arith))) (rw second at (here.reads 1 (omega arith))))
+pair_found s None nowhere = sym (found_nowhere s (λ k h e f. nowhere k (omega arith) (omega arith) (pair_here k h e f)))
+  where
+    pair_here : (k : ℕ) → suc k < length s → slice_index s k ≡ 36 → slice_index s (suc k) ≡ 48 → OccursAt s (bytes "$0") k
+    pair_here k h e f = record { fits = omega (arith, h); reads = reads }
+      where
+        first : k + 0 ≡ k
+        first = omega arith
+
+        second : k + 1 ≡ suc k
+        second = omega arith
+
+        reads : (j : ℕ) → j < 2 → slice_index s (k + j) ≡ slice_index (bytes "$0") j
+        reads zero l = rw first e
+        reads (suc zero) l = rw second f
+        reads (suc (suc j)) l = absurd (omega arith)
 
 pub no_mark : (s : List ℕ) → list_any (λ b. eqb b 36) s ≡ false → has_nought s ≡ false
 unfolding has_nought

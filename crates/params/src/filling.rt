@@ -11,6 +11,7 @@ use calls::Refusal;
 
 // What is refused of the text itself: it is measured where a place nought may stand or the output may be too short.
 #[tactic(auto, using(crate::proofs::FillAnswers::fits_unmeasured))]
+#[inline(never)]
 fn check_text(filling: Filling<'_>, room: usize) -> Result<(), Refusal>
     ensures { result ≡ unless_full room (measured filling.entry) }
 {

@@ -3,17 +3,14 @@ ghost use Rattle.std.specs.Prelude.{◌≡◌};
 ghost use Rattle.params.specs.Inner.Noughts.{has_nought, may_hold_nought};
 
 use crate::accepting::Filling;
+use memchr::memmem;
 
-// A `$` directly before a `0`. By `&` and `|` many pairs are looked at in one step, which took a tenth of the time of `any`; a text
-// without `$` takes half of that.
+// A `$` directly before a `0`. A text without `$` is passed in half the time.
+#[tactic(auto, using(crate::proofs::Noughts::pair_found, crate::proofs::Noughts::no_mark))]
 fn has_nought(text: &[u8]) -> bool
     ensures { result ≡ has_nought text.now }
 {
-    text.contains(&b'$')
-        && text.array_windows::<2>().fold(
-            false,
-            |found, pair| found | ((pair[0] == b'$') & (pair[1] == b'0')),
-        )
+    text.contains(&b'$') && memmem::find(text, b"$0").is_some()
 }
 
 #[tactic(auto, unfolding(crate::specs::Inner::Noughts::may_hold_nought))]
