@@ -11,7 +11,7 @@ use Rattle.characters.specs.declared.Class.TheVariants.{Whitespace}
 use Rattle.reserved.specs.declared.gaps.Gap.{Gap}
 use Rattle.reserved.specs.Inner.Gaps.{AllMeasured}
 
-none_there : (s : List ℕ) → 0 ≡ run (in_class Whitespace) 0 (drop (length s) s)
+pub none_there : (s : List ℕ) → 0 ≡ run (in_class Whitespace) 0 (drop (length s) s)
 unfolding run
 none_there s = rw (drop_of_length-le s (le_refl (length s)))
 
