@@ -19,7 +19,7 @@ pub struct Headed<'a> {
 fn is_utf8(bytes: &[u8]) -> bool
     ensures { result ≡ well_formed bytes.now }
 {
-    first_ill_formed(bytes).is_none()
+    bytes.is_empty() || first_ill_formed(bytes).is_none()
 }
 
 impl<'a> Headed<'a> {

@@ -15,12 +15,16 @@ use crate::parts::{part_length, put_part};
 use calls::{Refusal, Search, put_bytes};
 use tokenizer::{PlacedToken, Tokens};
 
-// The length of what stands for a token.
+// The length of what stands for a token. Most tokens are no placeholders and need no look at the sheet.
 #[inline(always)]
+#[tactic(auto, unfolding(crate::specs::Filled::stands_for))]
 fn length_for(params: &Params<'_>, token: PlacedToken<'_>) -> usize
     ensures { result ≡ part_length (part_for params.now token.entry) }
 {
-    part_length(params.stands_for(token))
+    if is_placeholder(token) {
+        return part_length(params.stands_for(token));
+    }
+    token.token.len
 }
 
 // What stands for a token, put into the output; the place behind it.
@@ -35,7 +39,7 @@ fn put_part_for(params: &Params<'_>, token: PlacedToken<'_>, output: &mut [u8], 
     at + part_length(part)
 }
 
-// The same, where most tokens are no placeholders and need no look at the sheet.
+// The same, with no look at the sheet for most tokens.
 #[inline(always)]
 #[tactic(auto, unfolding(crate::specs::Filled::stands_for))]
 fn put_for(params: &Params<'_>, token: PlacedToken<'_>, output: &mut [u8], at: usize) -> usize
