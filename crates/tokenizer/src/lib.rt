@@ -17,6 +17,7 @@ mod walking;
 pub use levels::level_past;
 pub use placed::PlacedToken;
 pub use records::key_words;
+pub use stepping::{at_start, next_step};
 pub use table::count_tokens;
 pub use tokenizing::tokenize;
 pub use walking::Tokens;
