@@ -27,7 +27,9 @@ pub use numbers::get_number_token;
 pub use parens::{get_close_paren_token, get_open_paren_token};
 pub use placeholders::{get_braced_named_placeholder_token, get_placeholder_token};
 pub use rest::Rest;
-pub use scan::{behind_caseless, end_of_word, is_lone, n_more, stands_at, token_of};
+pub use scan::{
+    behind_caseless, end_of_word, is_among, is_capital, is_lone, n_more, stands_at, token_of,
+};
 pub use strings::get_string_token;
 pub use type_specifier::get_type_specifier_token;
 pub use word_ahead::WordAhead;

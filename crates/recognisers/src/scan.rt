@@ -21,6 +21,13 @@ pub fn is_among(bytes: &[u8], b: u8) -> bool
     false
 }
 
+#[tactic(auto, unfolding(characters::specs::Ranges::within), using(std::proofs::lemmas::Bool::Decides::nat_tests))]
+pub fn is_capital(b: u8) -> bool
+    ensures { result ≡ within 65 90 b }
+{
+    b.is_ascii_uppercase()
+}
+
 // The byte at i is b.
 #[inline(always)]
 pub fn stands_at(rest: &[u8], i: usize, b: u8) -> bool
