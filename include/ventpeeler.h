@@ -45,7 +45,7 @@
  * lent for writing must not overlap any other buffer of the same call. The statement and the sheet are only read, and may be
  * shared between calls and threads. Nothing is remembered from call to call and nothing is allocated, so that any number of
  * threads may call at once, each with its own buffers for writing. One call takes less than VENTPEELER_STACK_BYTES of stack,
- * whatever the statement (1.7 KiB were measured); it does not recurse.
+ * whatever the statement (1.6 KiB were measured); it does not recurse.
  *
  * TIME
  *
